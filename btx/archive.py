@@ -148,9 +148,9 @@ class Archive:
         folders, same = len(self.here.unread), len(lists.alike(self.facts))
         kept = "kept" if self.options.keep else "removed"
         notes = [
-            folders and f"{collection.several(folders, 'folder')} can't be read; the report has them",
+            folders and f"{collection.several(folders, 'folder')} can't be read; the report names {'it' if folders == 1 else 'them'}",
             self.gone and f"{collection.several(self.gone, 'page')} no longer in the collection: {kept}",
-            same and f"{same:,} pages with a screen that another has too; the report has them", collection.left_aside(self.here),
+            same and f"{same:,} pages with a screen that another has too; the report names them", collection.left_aside(self.here),
         ]
         for note in filter(None, notes):
             print(note)
@@ -161,7 +161,8 @@ def run(path: program.Runner, options: argparse.Namespace) -> int:
     here = collection.Collection(options.folder) if fault else collection.found(options.folder, options.pattern)
     if not fault and not here.names and not here.unread:
         aside = collection.left_aside(here)
-        fault = Status.UNREAD, f"{html_file.shown_name(options.folder)}: there is no page in it" + (f"; {aside}" if aside else "")
+        said = f"there is no page in it, named {' '.join(options.pattern or collection.PATTERNS)}"
+        fault = Status.UNREAD, f"{html_file.shown_name(options.folder)}: {said}" + (f"; {aside}" if aside else "")
     if fault:
         say(fault[1])
         return fault[0]

@@ -33,13 +33,16 @@ KNOWN = (*program.WORDS, *OWN, "help")
 BY_THEMSELVES = ("viewer", "editor", "line", "cut", "host", "completion")
 EPILOG = """The words of the program pass through with its output and its status; what a status means is said on standard error.
 btx PAGE shows a page as terminal does, btx help WORD describes a word, and a file that is named - is standard input.
-man btx and man cept_tool say more. BTX_PROGRAM can name another program, and TAMLIGUB_LIBRARY another library."""
+{btx} and {cept_tool} say more. BTX_PROGRAM can name another program, and TAMLIGUB_LIBRARY another library."""
+EXPLAINED = "The lines that it writes and its statuses are explained by: {cept_tool}"
 
 
 def parsers() -> argparse.ArgumentParser:
     """The parser of all words; each word's own has its help."""
+    manuals = {name: program.manual(name) for name in ("btx", program.NAME)}
+    explained = EXPLAINED.format(**manuals)
     parser = argparse.ArgumentParser(
-        prog="btx", description="Shows, checks and edits stored Bildschirmtext pages.", epilog=EPILOG, allow_abbrev=False
+        prog="btx", description="Shows, checks and edits stored Bildschirmtext pages.", epilog=EPILOG.format(**manuals), allow_abbrev=False
     )
     parser.add_argument("--version", action="version", version=f"btx {VERSION}")
     words = parser.add_subparsers(dest="word", metavar="WORD", title="words")
@@ -47,7 +50,8 @@ def parsers() -> argparse.ArgumentParser:
         one = words.add_parser(word, help=module.SUMMARY, description=module.__doc__, allow_abbrev=False)
         module.arguments(one)
     for word, (wanted, writes) in program.WORDS.items():
-        one = words.add_parser(word, help=writes, description=f"Writes {writes}.", usage=messages.usage(word).partition(": ")[2])
+        usage = messages.usage(word).partition(": ")[2]
+        one = words.add_parser(word, help=writes, description=f"Writes {writes}.", usage=usage, epilog=explained)
         for name in wanted.split(" "):
             one.add_argument(name)
         one.add_argument("-o", "--output", metavar="FILE", help="where to write it, once it is whole; without this to standard output")
@@ -56,8 +60,9 @@ def parsers() -> argparse.ArgumentParser:
 
 def unknown(word: str) -> int:
     nearest = near.nearest(word, KNOWN)
-    hint = f"; the nearest is {nearest}" if nearest else ""
-    say(f"{word} is none of its words{hint}\nbtx --help lists them")
+    hint = f"; the nearest word is {nearest}" if nearest else ""
+    what = "no word of btx" if os.path.exists(word) else "neither a word of btx nor a file"
+    say(f"{word} is {what}{hint}\nbtx --help lists the words")
     return 2
 
 
@@ -94,7 +99,7 @@ def is_page(word: str) -> bool:
 def spelled(words: Sequence[str]) -> Sequence[str]:
     """The words in full: a page alone is shown, and help is asked of the word itself."""
     if words[0] == "help":
-        return [*words[1:2], "--help"]
+        return [*words[1:2], "--help"] if words[1:] != ["help"] else ["--help"]
     return ["terminal", *words] if words[0] not in KNOWN and not words[0].startswith("--") and is_page(words[0]) else words
 
 

@@ -3,13 +3,15 @@ decoder writes of the state in which it begins, as far as that isn't the one of 
 btx archive takes the folder."""
 import argparse
 import os
+import re
 from collections.abc import Iterator
 
 from btx import collection, files, live, looks, recording, say
 
 SUMMARY = "the pages of a recording of a line"
 PAUSE = 1
-CLEARED = b"\x0c"
+# The clear of the screen, and full defaults, which clear it too.
+CLEARS = re.compile(rb"\x0c|\x1f\x2f[\x41\x42]")
 # The sets G0 to G3 and the shifts at the start, with what designates a set and locks a shift; the sets are numbered P, S, M, N, D.
 SETS, LEFT, RIGHT = (0, 2, 1, 3), 0, 2
 DESIGNATED = (b"\x40", b"\x62", b"\x63", b"\x64", b"\x20\x40")
@@ -98,23 +100,23 @@ class Cutter:
         self.decoder.feed(self.data[self.at : end])
         self.at = end
 
-    def front(self) -> bytes | None:
+    def front(self, clear: bytes) -> bytes | None:
         """What a page has before a clear that the decoder has just read: None where no bytes bring that back."""
         here = kept(self.decoder)
         fronts = (b"", control(here[1]), here[0] + control(here[1]))
-        return next((front for front in fronts if after(front, CLEARED) == here), None)
+        return next((front for front in fronts if after(front, clear) == here), None)
 
     def parts(self) -> Iterator[Part]:
-        """The parts in order. Every byte 0C is a clear, since no longer unit has it inside."""
-        part, place = Part(0, b""), self.data.find(CLEARED)
-        while place >= 0:
+        """The parts in order. Every byte 0C is a clear, and every 1F begins a unit, since no longer unit has them inside."""
+        part = Part(0, b"")
+        for clear in CLEARS.finditer(self.data):
+            place = clear.start()
             if self.arms.begins(place):
                 self.feed(place)
                 part.end, part.cells = place, cells_at_end(live.Live.restored(self.decoder.snapshot()))
                 yield part
-                self.feed(place + 1)
-                part = Part(place, self.front())
-            place = self.data.find(CLEARED, place + 1)
+                self.feed(clear.end())
+                part = Part(place, self.front(clear[0]))
         self.feed(len(self.data))
         part.end, part.cells = len(self.data), cells_at_end(self.decoder)
         yield part

@@ -79,6 +79,15 @@ def refused(run: Run) -> str:
     return said if run.word == "check" else f"{said}; btx check {shlex.quote(page)} names {'it' if bad == 1 else 'them'}"
 
 
+def not_utf8(word: str, names: Sequence[str]) -> str:
+    """That the bytes of a name aren't UTF-8, as the program takes names; empty where those of all are."""
+    for name in names:
+        shown = os.fsencode(name).decode("utf-8", "backslashreplace")
+        if shown != name:
+            return f"the name {shown} isn't UTF-8, and the program takes no other; btx {word} - reads standard input"
+    return ""
+
+
 def no_request(run: Run) -> str:
     """Why the words are no request."""
     word, words, wanted = run.word, run.words, program.WORDS[run.word][0].split(" ")
@@ -91,7 +100,7 @@ def no_request(run: Run) -> str:
     elif len(set(words)) < len(words):
         reason = f"{' and '.join(wanted)} have the same name"
     else:
-        reason = "the words can't be read"
+        reason = not_utf8(word, words) or "the words can't be read"
     return f"{word}: {reason}\n{usage(word)}"
 
 

@@ -76,6 +76,12 @@ def build_needs(*tools: str) -> str:
     return f"; that needs {' and '.join(absent)}, which this machine doesn't have" if absent else ""
 
 
+def manual(name: str) -> str:
+    """The command that shows a man page: of the checkout that btx is in, or else of the system."""
+    path = os.path.join(ROOT, "docs", f"{name}.1")
+    return f"man -l {shlex.quote(path)}" if os.path.exists(path) else f"man {name}"
+
+
 def standing(beside: str) -> str | None:
     """The path of the proved program, or None: BTX_PROGRAM, or beside this command, or in the checkout."""
     named = os.environ.get("BTX_PROGRAM")

@@ -87,7 +87,7 @@ class Left(archives.Case):
         self.source = spun_out(self.source)
         os.remove(os.path.join(self.source, "form.btx"))
         done = self.archive()
-        self.assertIn(b"1 folder can't be read; the report has them", done.stdout)
+        self.assertIn(b"1 folder can't be read; the report names it", done.stdout)
         report = self.report()
         self.assertEqual((report[deep + "/"]["status"], report[deep + "/"]["meaning"]), ("4", "can't be read: file name too long"))
         # What is in it may be there still, and so stays; what is gone elsewhere doesn't.
@@ -124,7 +124,7 @@ class Taken(archives.Case):
         self.archive()
         os.rename(os.path.join(self.source, "a.btx"), os.path.join(self.source, "a.vdt"))
         error = self.archive(status=4).stderr
-        self.assertIn(b"there is no page in it; left aside: 1 file (1 .vdt)", error)
+        self.assertIn(b"there is no page in it, named *.btx *.cept *.vtx *.bin; left aside: 1 file (1 .vdt)", error)
         # As where a disk isn't there: nothing is taken away.
         self.assertIn("a.btx", self.report())
 

@@ -136,16 +136,19 @@ class Files(stand.Case):
             self.assertEqual(stand.btx("help", word).stdout, stand.btx(word, "--help").stdout)
             self.assertIn(f"usage: btx {word}".encode(), stand.btx("help", word).stdout)
         self.assertEqual(stand.btx("help").stdout, stand.btx("--help").stdout)
+        self.assertEqual(stand.btx("help", "help").stdout, stand.btx("--help").stdout)
         done = stand.btx("help", "shwo")
-        self.assertEqual((done.returncode, done.stderr), (2, b"btx: shwo is none of its words; the nearest is show\nbtx --help lists them\n"))
+        said = b"btx: shwo is neither a word of btx nor a file; the nearest word is show\nbtx --help lists the words\n"
+        self.assertEqual((done.returncode, done.stderr), (2, said))
 
     def test_the_nearest_word_is_that_of_the_letters(self):
         for word, nearest in (
             ("hlep", "help"), ("term", "terminal"), ("arch", "archive"), ("tarce", "trace"), ("gne", "gen"), ("ceck", "check"), ("EDIT", "edit"),
             ("text", None), ("pic", None), ("x", None), ("page", None), ("jump", None),
         ):
-            hint = f"; the nearest is {nearest}" if nearest else ""
-            self.assertEqual(stand.btx(word).stderr.decode(), f"btx: {word} is none of its words{hint}\nbtx --help lists them\n")
+            hint = f"; the nearest word is {nearest}" if nearest else ""
+            said = f"btx: {word} is neither a word of btx nor a file{hint}\nbtx --help lists the words\n"
+            self.assertEqual(stand.btx(word).stderr.decode(), said)
 
     def test_on_a_terminal_it_says_that_it_waits_for_a_pipe(self):
         for word in ("show", "terminal", "edit"):

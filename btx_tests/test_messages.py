@@ -64,14 +64,15 @@ class Messages(stand.Case):
             (["edit", page], "usage: btx edit PAGE SCRIPT"), (["trace", page, page], "PAGE and SCRIPT have the same name"),
             (["plot", page], "usage: btx plot PAGE DRAWING"), (["plot", page, page], "PAGE and DRAWING have the same name"),
             (["gen", "4294967296"], "4294967296 is no number"), (["load", "00000000001"], "usage: btx load NUMBER"),
+            (["show", self.path("\udcdc")], "\\xdc isn't UTF-8, and the program takes no other; btx show - reads standard input"),
             (["flash", page, "601"], "601 is no number from 0 to 600"), (["flash", page], "usage: btx flash PAGE NUMBER"),
         ):
             self.assertEqual(self.ends(words, 2, said).stdout, b"")
 
     def test_unknown_words_are_answered_with_the_nearest(self):
         for word, nearest in (("shwo", "show"), ("Check", "check"), ("terminl", "terminal"), ("htm", "html")):
-            self.ends([word, "x"], 2, f"{word} is none of its words; the nearest is {nearest}\n")
-        self.ends(["qqqq"], 2, "qqqq is none of its words\n")
+            self.ends([word, "x"], 2, f"{word} is neither a word of btx nor a file; the nearest word is {nearest}\n")
+        self.ends(["qqqq"], 2, "qqqq is neither a word of btx nor a file\n")
 
     def test_a_line_of_a_script_is_named_with_its_reason(self):
         for line, said in (

@@ -174,9 +174,9 @@ class Cut(lines.Case):
             with open(stand.page(name), "rb") as file:
                 parts.append(b"\x1f\x2f\x42\x0c" + file.read())
         found, whole = self.made(self.recorded(*parts)), b"".join(parts)
-        # Clears within a page come at once, and begin none; what stands before a clear belongs to the page before.
-        ends = [sum(map(len, parts[:number])) + 3 for number in range(1, len(parts))] + [len(whole)]
-        self.assertEqual(len(found), len(ends))
+        # Clears within a page come at once, and begin none; full defaults are a clear, and nothing stands before them.
+        ends = [sum(map(len, parts[: number + 1])) for number in range(len(parts))]
+        self.assertEqual(list(found.values()), parts)
         for end, page in zip(ends, found.values()):
             self.assertEqual(self.cells(page), self.cells(whole[:end]))
 

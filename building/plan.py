@@ -69,7 +69,9 @@ class Plan:
         self.uses, self.lanes = crates.uses(), lanes
         self.left = minutes_of(names)
         self.total, self.count = len(names), 0
-        self.begun, self.taken = time.monotonic(), 0.0
+        # When the proof began, when the last crate was taken of an earlier run, and the minutes of all that were.
+        self.begun = self.took = time.monotonic()
+        self.taken = 0.0
         self.whole = self.rest()
 
     def rest(self):
@@ -87,11 +89,12 @@ class Plan:
         self.count += 1
         rest = self.rest()
         if taken:
+            self.took = time.monotonic()
             self.taken += before - rest
+            return f"{name} was proved by an earlier run, {self.count} of {self.total}"
         worked, minutes = self.whole - self.taken - rest, (time.monotonic() - self.begun) / 60
         pace = max(FASTEST, min(SLOWEST, minutes / worked)) if worked > ENOUGH else 1
-        word = "was proved by an earlier run" if taken else "proved"
-        return f"{name} {word}, {self.count} of {self.total}" + (f"; {about(rest * pace)} left" if self.left else "")
+        return f"{name} proved, {self.count} of {self.total}" + (f"; {about(rest * pace)} left" if self.left else "")
 
 
 def about(minutes):

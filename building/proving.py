@@ -4,6 +4,7 @@ import os
 import re
 import subprocess
 import threading
+import time
 
 from building import ROOT, Stop, kit, running, tell
 
@@ -11,7 +12,7 @@ LOG = os.path.join(ROOT, "out", "build.log")
 ENDED = re.compile(r"rt: (\w+) (proved|is kept|NOT PROVED)\b")
 SAID = re.compile(r"rt: (.*\bwaiting for .*|note: .*)")
 SHOWN = 30
-# The seconds in which `rt ci` has taken what it has proved earlier.
+# The seconds after which `rt ci` takes nothing more of what it has proved earlier, counted from the last crate that it took.
 TAKING = 20
 
 
@@ -39,13 +40,22 @@ def follow(lines, course, log):
 
 @contextlib.contextmanager
 def told_later(course):
-    """Once what was proved earlier has had the time to be taken, says what is left to prove."""
-    timer = threading.Timer(TAKING, lambda: tell(course.ahead()))
-    timer.start()
+    """Once nothing more is taken of what was proved earlier, says what is left to prove."""
+    ended = threading.Event()
+
+    def tell_then():
+        while not ended.wait(max(0.0, course.took + TAKING - time.monotonic())):
+            if time.monotonic() >= course.took + TAKING:
+                if course.left:
+                    tell(course.ahead())
+                break
+
+    waits = threading.Thread(target=tell_then, daemon=True)
+    waits.start()
     try:
         yield
     finally:
-        timer.cancel()
+        ended.set()
 
 
 def prove(folder, course):

@@ -5,7 +5,7 @@ import shutil
 import subprocess
 import tempfile
 
-from building import ROOT, Stop, kit, running
+from building import ROOT, Stop, kit, running, tell
 
 CRATE = os.path.join(ROOT, "crates", "cept_tool")
 PROGRAM = os.path.join(ROOT, "out", "quick", "cept_tool")
@@ -28,6 +28,7 @@ def shows(program):
 def make():
     """Has `rt try` show a page, and keeps the program that it compiled for that. Answers its path."""
     folder = kit.found()
+    tell("rt try compiles the program unproved, which takes up to a minute")
     with tempfile.TemporaryDirectory(prefix="tamligub-quick-") as work:
         kept = os.path.join(work, "program")
         rt = kit.shadow(folder, work, "ld.lld", KEEPS.replace("KEPT", shlex.quote(kept)))

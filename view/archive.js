@@ -277,6 +277,7 @@ async function choose() {
   if (mine !== turn) return;
   chosen = numbers(wanted);
   part("count").textContent = word("count", { some: grouped(chosen.length), all: grouped(all.count) });
+  part("none-found").hidden = chosen.length > 0;
   shown = 0;
   showFolders();
   showMore();

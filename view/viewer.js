@@ -22,6 +22,8 @@ export class Viewer {
     this.pages = [];
     /** @type {Page | null} */
     this.page = null;
+    // Whether pages of this file are still to come.
+    this.awaits = false;
     /** @type {Line | null} */
     this.line = null;
     /** @type {Check | null} */
@@ -55,12 +57,21 @@ export class Viewer {
   }
 
   /**
+   * Says that a page is being read, where pages are to be taken.
+   * @param {boolean} isExpected
+   */
+  expect(isExpected) {
+    this.awaits = isExpected;
+  }
+
+  /**
    * Takes pages and opens the first, or says what isn't understood.
    * @param {Page[]} pages
    */
   take(pages) {
     if (this.line) this.line.leave();
     this.pages = pages;
+    this.awaits = false;
     showIndex(pages, (number) => this.open(number), (page, canvas) => this.small(page, canvas));
     if (pages.length) this.open(0);
   }
@@ -289,7 +300,7 @@ export class Viewer {
 
   // Says what the page is, until something in it is pointed at.
   sayPage() {
-    say("name", this.page ? this.page.name : word("noPage"));
+    say("name", this.page ? this.page.name : word(this.awaits ? "reading" : "noPage"));
     if (this.pointed < 0) {
       say("cell-line", word("pointAt"));
       say("cell-bytes", "");
@@ -431,6 +442,8 @@ function onDensity(act) {
 }
 
 async function begin() {
+  const inside = embedded();
+  viewer.expect(inside.length > 0);
   part("flash").checked = !window.matchMedia("(prefers-reduced-motion: reduce)").matches;
   joinControls();
   joinFiles();
@@ -441,7 +454,7 @@ async function begin() {
   window.addEventListener("resize", () => viewer.lay());
   onDensity(() => viewer.lay());
   window.addEventListener("hashchange", () => viewer.follow());
-  viewer.take(await unpacked(embedded()));
+  viewer.take(await unpacked(inside));
   viewer.follow();
   part("open-part").open = !viewer.pages.length;
 }
