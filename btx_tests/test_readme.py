@@ -87,7 +87,7 @@ class Readme(stand.Case):
         done = self.run_in(self.tree(), block()[0][0])
         self.assertEqual(done.returncode, 0, done.stderr.decode())
         self.assertIn("B I L D S C H I R M T E X T", done.stdout.decode())
-        self.assertEqual(done.stderr.decode().count("unproved"), 1)
+        self.assertEqual(done.stderr.decode().count("this program is unproved"), 1)
 
     def test_each_command_of_btx_runs(self):
         tree = self.clone()
