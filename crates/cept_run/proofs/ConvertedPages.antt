@@ -32,7 +32,7 @@ use Rattle.cept_run.specs.Taking.{AreLeft}
 use Rattle.cept_run.specs.inside.Converting.{PutsConverted, ConvertsWhole, ConvertsPart, ConvertsCut, ConvertsNot, PageConverted}
 use Rattle.cept_run.proofs.PagesInPieces.{KeepsFiles-more, nil_from_length}
 use Rattle.cept_run.proofs.PaintedItems.{chained-one, each_shown}
-use Rattle.cept_run.proofs.FrontsPut.{cut_front, either_front}
+use Rattle.cept_run.proofs.FrontsPut.{cut_front, either_front, either_with}
 use Rattle.cept_run.proofs.ReportedFronts.{same_sink}
 use Rattle.cept_run.proofs.Selections.{selected_is, given_left, put_either, EndsPut, put_unless, room_kept}
 use Rattle.cept_run.proofs.StoppedScripts.{first_fault-none, named_so_long, name_in}
@@ -360,7 +360,8 @@ module _ (action : BytesAction) (name : List ℕ) (before : Outside) where
             script_is = refl;
             good = first_fault-none;
             script_not_too_long = omega arith;
-            cut = by_put ends.bytes ends.cut;
+            cut = either_with (text_event (converted action ends.bytes) ∷ []) (output before) (output after)
+                ends.read ends.can_end (by_put ends.bytes ends.cut);
             front = λ blank. either_front (text_event (converted action ends.bytes) ∷ []) (output before) (output after)
                 (by_put ends.bytes ends.cut);
             taken = λ other named. (selects_page other named, inl (ends.takes.taken, ends.takes.few));

@@ -241,7 +241,13 @@ module _ (action : BytesAction) (before after : ShelfState) (start now : SinkSta
     puts = ends.0;
     stays = takes.stays;
   }
-  page_ended (Err stops.WriteFault) ends = inr (record { bytes = bytes; takes = takes; cut = ends })
+  page_ended (Err stops.WriteFault) ends = inr (record {
+    bytes = bytes;
+    takes = takes;
+    read = read;
+    can_end = ends.1;
+    cut = ends.0;
+  })
   page_ended (Err stops.ReadFault) ends = elim ends [ ]
   page_ended (Err stops.TooLong) ends = elim ends [ ]
   page_ended (Err stops.Script) ends = elim ends [ ]

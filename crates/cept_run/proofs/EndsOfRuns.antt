@@ -41,7 +41,7 @@ use Rattle.cept_run.proofs.PagesInPieces.{KeepsFiles-more, nil_from_length}
 use Rattle.cept_run.proofs.PaintedItems.{still_idle}
 use Rattle.cept_run.proofs.ReportedFronts.{reports_front, reports_nothing, made_nothing}
 use Rattle.cept_run.proofs.ReportedRuns.{put_made, put_cut, all, edited, the_end, the_run, whole_report}
-use Rattle.cept_run.proofs.FrontsPut.{cut_front}
+use Rattle.cept_run.proofs.FrontsPut.{cut_front, either_with}
 use Rattle.cept_run.proofs.ReportedRuns.{cut_at_end, put_to_end, front_at_end}
 use Rattle.cept_run.proofs.Selections.{selected_is, given_left, under_same}
 use Rattle.cept_run.proofs.Selections.{gives_still, EndsPut, put_unless, room_kept}
@@ -287,7 +287,7 @@ module _ (plan : Plan) (grammar : Grammar) (name : List ℕ) (script : Source) (
       script_is = known.has;
       good = known.good;
       script_not_too_long = known.few;
-      cut = cut;
+      cut = either_with (the_run options grammar bytes told after.glass.grid) (output before) (output after) refl refl cut;
       front = front;
       taken = λ other named. (selects_page other named, inl (takes.taken, takes.few));
     }

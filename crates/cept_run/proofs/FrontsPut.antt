@@ -42,3 +42,10 @@ module _ (events : List Event) (before after : Output) where
       → PutsFront (report events) before.sink after.sink
   either_front (inl off) = cut_front off
   either_front (inr made) = inr (made.0.put, made.1)
+
+  -- beside a report that was put, what else holds
+  pub either_with : {A B : Type 0} → A → B
+      → AreCutOff events before after ⊎ (AreMade events before after × (before.sink.always_flushes ≡ false))
+      → AreCutOff events before after ⊎ (AreMade events before after × (before.sink.always_flushes ≡ false) × A × B)
+  either_with a b (inl off) = inl off
+  either_with a b (inr made) = inr (made.0, made.1, a, b)

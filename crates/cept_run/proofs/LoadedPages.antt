@@ -31,7 +31,7 @@ use Rattle.cept_run.specs.Words.{is_painted}
 use Rattle.cept_run.proofs.EditedLines.{edited_events-none}
 use Rattle.cept_run.proofs.PaintedItems.{chained-one, each_shown, still_idle}
 use Rattle.cept_run.proofs.ReportedRuns.{put_cut, all, edited, the_end, the_run, whole_report, cut_at_end}
-use Rattle.cept_run.proofs.FrontsPut.{cut_front, either_front}
+use Rattle.cept_run.proofs.FrontsPut.{cut_front, either_front, either_with}
 use Rattle.cept_run.proofs.ReportedRuns.{put_to_end, front_at_end}
 use Rattle.cept_run.proofs.Selections.{put_either, EndsPut, put_unless, room_kept}
 use Rattle.cept_run.proofs.StoppedScripts.{sequel-none, first_fault-none}
@@ -93,7 +93,7 @@ module _ (page : List ℕ) (before after : Outside) (shelf : after.shelf ≡ bef
     script_is = refl;
     good = first_fault-none;
     script_not_too_long = omega arith;
-    cut = by_text puts.put;
+    cut = either_with (event ∷ []) (output before) (output after) refl refl (by_text puts.put);
     front = λ blank. either_front (event ∷ []) (output before) (output after) (by_text puts.put);
     taken = λ name e. cc;
   }
@@ -175,7 +175,7 @@ module _ (plan : Plan) (page : List ℕ) (before after : Outside) (shelf : after
     script_is = refl;
     good = first_fault-none;
     script_not_too_long = omega arith;
-    cut = cut;
+    cut = either_with shown_run (output before) (output after) refl refl cut;
     front = front;
     taken = λ name e. cc;
   }

@@ -6,6 +6,7 @@ use Rattle.cept_run.specs.declared.words.PageAction.TheVariants.{Cells, Changes,
 use Rattle.cept_run.specs.declared.words.ScriptAction.TheVariants.{Edit, Trace}
 use Rattle.cept_run.specs.Course.{File, Given, Source, course_of}
 use Rattle.cept_run.specs.Words.{Bytes, Drawing, Flash, Number, Page, Request, Script}
+use Rattle.cept_seven.specs.Eight.{accepted_after, is_shifted}
 
 -- ---- files
 
@@ -60,3 +61,22 @@ painting = refl
 written : map (λ request. (course_of request).written) requests ≡
     false ∷ false ∷ false ∷ false ∷ false ∷ true ∷ false ∷ true ∷ false ∷ false ∷ false ∷ false ∷ false ∷ true ∷ []
 written = refl
+
+-- ---- pages in seven bits: how far they can be read, and where they can end
+
+readable : map (course_of (Bytes Eight page)).readable_front (
+    (0x41 ∷ 0x10 ∷ [])
+    ∷ (0x41 ∷ 0xC1 ∷ 0x41 ∷ [])
+    ∷ (0x41 ∷ 0x10 ∷ 0x41 ∷ 0x42 ∷ []) ∷ [])
+    ≡ (0x41 ∷ 0x10 ∷ []) ∷ (0x41 ∷ []) ∷ (0x41 ∷ 0x10 ∷ []) ∷ []
+unfolding accepted_after is_shifted
+readable = refl
+
+ends_there : map (course_of (Bytes Eight page)).can_end (
+    []
+    ∷ (0x41 ∷ [])
+    ∷ (0x10 ∷ [])
+    ∷ (0x10 ∷ 0x4E ∷ []) ∷ [])
+    ≡ true ∷ true ∷ false ∷ true ∷ []
+unfolding accepted_after is_shifted
+ends_there = refl

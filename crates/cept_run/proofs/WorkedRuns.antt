@@ -70,7 +70,8 @@ with_refusals : are_told (Page Check page) (
     ∷ (0x1F ∷ 0x31 ∷ 0x41 ∷ 0x0D ∷ [], codes "! 0 2 4 UnknownUnit\nitems 3 refused 1\n")
     ∷ (0x1F ∷ 0x40 ∷ 0x41 ∷ 0x1F ∷ 0x58 ∷ 0x68 ∷ 0x41 ∷ [], codes "! 0 3 5 BadParameter\nitems 3 refused 1\n")
     ∷ (0x9B ∷ 0x31 ∷ 0x0D ∷ 0x42 ∷ [], codes "! 0 2 6 Interrupted\nitems 3 refused 1\n")
-    ∷ (0x1B ∷ [], codes "! 0 1 7 Truncated\nitems 1 refused 1\n") ∷ [])
+    ∷ (0x1B ∷ [], codes "! 0 1 7 Truncated\nitems 1 refused 1\n")
+    ∷ (0x41 ∷ 0x1C ∷ [], codes "! 1 1 1 UnassignedControl\nitems 2 refused 1\n") ∷ [])
 unfolding reading_computes report item_events script_events edits_from digits reason_number reason_name
 with_refusals = refl
 

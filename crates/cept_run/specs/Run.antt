@@ -168,10 +168,11 @@ pub record IsReportCut (course : Course) (before after : Outside) : Type 0 where
   pub script_is : HasBytes before.shelf course.script script
   pub good : course.fault script ≡ None
   pub script_not_too_long : length script ≤ 2 ^ 20
-  -- at one event, which was painted and no later one; or the report was put, and the flush failed, as it can
+  -- at one event, which was painted and no later one; or the report was put of a page that can be read and end there, and
+  -- the flush failed, as it can
   pub cut : AreCutOff (course.events page script after.glass.grid) (output before) (output after)
       ⊎ (AreMade (course.events page script after.glass.grid) (output before) (output after)
-      × (before.sink.always_flushes ≡ false))
+      × (before.sink.always_flushes ≡ false) × (course.readable_front page ≡ page) × (course.can_end page ≡ true))
   -- so where the glass was blank, a front of the report was put, and not the whole where no flush fails
   pub front : before.glass.grid ≡ grid [] → PutsFront (report_of course page script) before.sink after.sink
   -- of a page in a file, beside which none is selected, all was taken, or a front

@@ -60,7 +60,8 @@ EndConverted action b before (Ok refused) after =
     PutsWhole (converted action b) before after × (can_end_there action b ≡ true) × (refused ≡ false)
 EndConverted action b before (Err stops.NotSeven) after =
     PutsConverted action b before after × (can_end_there action b ≡ false)
-EndConverted action b before (Err stops.WriteFault) after = PutsUnflushed (converted action b) before after
+EndConverted action b before (Err stops.WriteFault) after =
+    PutsUnflushed (converted action b) before after × (can_end_there action b ≡ true)
 EndConverted action b before (Err _) after = ⊥
 
 -- ---- a page of a shelf
@@ -118,6 +119,8 @@ pub record ConvertsCutAtEnd (action : BytesAction) (before : ShelfState) (start 
     (now : SinkState) : Type 0 where
   pub bytes : List ℕ
   pub takes : TakesWhole (AreLeft before) (2 ^ 24) bytes before after
+  pub read : readable_front action bytes ≡ bytes
+  pub can_end : can_end_there action bytes ≡ true
   pub cut : PutsUnflushed (converted action bytes) start now
 
 -- how its conversion ends

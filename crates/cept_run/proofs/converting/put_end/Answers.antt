@@ -11,12 +11,14 @@ returns-then-is_open g c = λ action b start has.
 pub returns-in_default : goal.returns-in_default
 returns-in_default g c = λ action b start has.
     let is = c.finish.ensures action b has.stands ∙ ap (λ w. converted_front action b ++ w) (sym c.as_slice.ensures.value) in
-    let puts = c.in_default.ensures.puts in
-    record {
-      cause = fault_since _ _ _ has.puts.stays puts.cause.failed;
-      later = later_since _ _ _ has.puts.stays puts.cause.later;
-      put = inl (part_put start _ _ _ _ _ is has.puts.put puts.part);
-    }
+    let puts = c.in_default.ensures.puts in (
+      record {
+        cause = fault_since _ _ _ has.puts.stays puts.cause.failed;
+        later = later_since _ _ _ has.puts.stays puts.cause.later;
+        put = inl (part_put start _ _ _ _ _ is has.puts.put puts.part);
+      },
+      can_end _ _ (c.is_open.ensures action b has.stands) c.if-is_open.false,
+    )
 
 pub returns : goal.returns
 returns g c = λ action b start has.
