@@ -13,3 +13,6 @@ mod Worked
 mod WorkedShown
 mod WorkedSnapshots
 mod WorkedStates
+mod WorkedColours
+mod WorkedBounds
+mod WorkedLines

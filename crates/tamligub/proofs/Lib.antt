@@ -8,4 +8,6 @@ mod Texts
 mod Reports
 mod ReportsTold
 mod WorkedCalls
+mod WorkedAnswers
+mod WorkedDecoders
 mod Filled

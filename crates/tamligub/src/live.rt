@@ -2,7 +2,7 @@
 //! that isn't open, whose page has ended or that was closed before, too: it takes the decoder out of what C
 //! keeps, and puts it back.
 ghost use Rattle.std.specs.Prelude.{◌≡◌, ◌≤◌, ◌⊎◌, [], true, false, length, take};
-ghost use Rattle.cept_live.specs.Live.{Feeds, HasFed, Stops};
+ghost use Rattle.cept_live.specs.Live.{Feeds, HasFed, Stops, live_start};
 ghost use Rattle.cept_live.specs.States.{state_record};
 ghost use Rattle.tamligub.specs.Decoders.{CannotEnd, CannotFlash, DoneOrRefused, FlashStarts};
 ghost use Rattle.tamligub.specs.Decoders.{FlashTurns, HasNoLook, IsClosed, IsRefused, PageEnds};
@@ -20,6 +20,7 @@ use std::alloc::Global;
 pub extern "C" fn tamligub_open(alloc: Global, decoder: &mut Decoder) -> u32
     ensures opened { result ≡ 0
         → (decoder.new.is_open ≡ true) × HasFed decoder.new.block.value [] }
+    ensures start { result ≡ 0 → decoder.new.block.value ≡ live_start }
     ensures failed { (result ≡ 0) ⊎ ((result ≡ 6) × (decoder.new.is_open ≡ false)) }
 {
     let _former = decoder.take(alloc);
