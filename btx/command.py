@@ -48,6 +48,7 @@ def parsers() -> argparse.ArgumentParser:
     words = parser.add_subparsers(dest="word", metavar="WORD", title="words")
     for word, module in OWN.items():
         one = words.add_parser(word, help=module.SUMMARY, description=module.__doc__, allow_abbrev=False)
+        one.set_defaults(own=one)
         module.arguments(one)
     for word, (wanted, writes) in program.WORDS.items():
         usage = messages.usage(word).partition(": ")[2]
@@ -116,7 +117,9 @@ def run(words: Sequence[str], beside: str) -> int:
         return unknown(word)
     if words == jobs.WORKER:
         return jobs.work(library.found(beside))
-    options = parser.parse_args(words)
+    options, unknown_words = parser.parse_known_args(words)
+    if unknown_words:
+        getattr(options, "own", parser).error("unrecognized arguments: " + " ".join(unknown_words))
     options.beside, options.parser = beside, parser
     path = "" if options.word in BY_THEMSELVES else program_for(beside)
     return guarded(path, options.word, OWN[options.word].run, options)

@@ -66,6 +66,7 @@ class Messages(stand.Case):
             (["gen", "4294967296"], "4294967296 is no number"), (["load", "00000000001"], "usage: btx load NUMBER"),
             (["show", self.path("\udcdc")], "\\xdc isn't UTF-8, and the program takes no other; btx show - reads standard input"),
             (["flash", page, "601"], "601 is no number from 0 to 600"), (["flash", page], "usage: btx flash PAGE NUMBER"),
+            (["viewer", page], "usage: btx viewer "), (["diff", page, page, page], "usage: btx diff "),
         ):
             self.assertEqual(self.ends(words, 2, said).stdout, b"")
 
