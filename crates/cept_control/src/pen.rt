@@ -1,4 +1,4 @@
-ghost use Rattle.std.specs.Prelude.{◌≡◌, ◌≤◌, [], true, false, IfSome};
+ghost use Rattle.std.specs.Prelude.{◌≡◌, ◌≤◌, ◌==◌, ◌||◌, [], true, false, IfSome};
 ghost use Rattle.cept_codes.specs.Attribute.{IsValidAttr, IsValidPen};
 ghost use Rattle.cept_codes.specs.Command.{IsC1, IsValidCommand};
 ghost use Rattle.cept_control.specs.AttributeCode.{is_attribute_code};
@@ -7,7 +7,7 @@ ghost use Rattle.cept_profile.specs.Control.{control_after, control_effect};
 ghost use Rattle.cept_profile.specs.Edges.{edges_of};
 ghost use Rattle.cept_profile.specs.Strokes.{strokes_of, strokes_when};
 ghost use Rattle.cept_profile.specs.Pens.{attribute_of, fast_after, fast_after_code};
-ghost use Rattle.cept_profile.specs.Pens.{fast_flash, flash_of, is_flash};
+ghost use Rattle.cept_profile.specs.Pens.{fast_flash, flash_of};
 ghost use Rattle.cept_profile.specs.Pens.{pen_with, pen_with_any};
 
 use crate::control::Control;
@@ -102,7 +102,7 @@ impl Control {
 
 /// Whether a C1 code is one of flash. These end the fast flash.
 fn is_flash(n: u8) -> bool
-    ensures { result ≡ is_flash n }
+    ensures { result ≡ (n == 8 || n == 9) }
 {
     n == 8 || n == 9
 }

@@ -16,7 +16,7 @@ use Rattle.cept_codes.specs.declared.glyph.Read.{Read}
 use Rattle.cept_codes.specs.declared.glyph.Read.TheVariants as reads
 use Rattle.cept_codes.specs.declared.glyph.SetId.{SetId}
 use Rattle.cept_codes.specs.Command.{IsValidCommand}
-use Rattle.cept_profile.specs.Control.{Working, ControlState, control_with, working_at, working_without_accent}
+use Rattle.cept_profile.specs.Control.{Working, ControlState, control_with, working_at}
 use Rattle.cept_profile.specs.Control.{finds_accent, state_for_effect, control_effect, control_back, control}
 use Rattle.cept_profile.specs.ControlSettings.{before_service, is_running, outer_back, c1_said, table_said}
 use Rattle.cept_profile.specs.ControlSettings.{protect_said, set_said, left_said, right_said, fore_in, back_in}
@@ -24,9 +24,9 @@ use Rattle.cept_profile.specs.ControlSettings.{conceal_in, lined_in, boxed_in, s
 use Rattle.cept_profile.specs.ControlSettings.{class_said, rows_said, wrap_said, implicit_said, created_back, area_said, revision_said}
 use Rattle.cept_profile.specs.ControlSettings.{Settings, settings_of, settings_back, settings}
 use Rattle.cept_profile.specs.Motions.{row_below, row_above, working_ahead, working_back}
-use Rattle.cept_profile.specs.Markers.{marker_of, working_after_any_marker, working_after_marker}
-use Rattle.cept_profile.specs.Pens.{attribute_of, pen_with_any, working_after_code, fast_after, fast_after_code}
-use Rattle.cept_profile.specs.Pens.{flash_of, working_after_flash, working_after_reveal}
+use Rattle.cept_profile.specs.Markers.{marker_of, working_after_marker}
+use Rattle.cept_profile.specs.Pens.{attribute_of, fast_after, fast_after_code, flash_of, pen_with_any}
+use Rattle.cept_profile.specs.Pens.{working_after_function}
 use Rattle.cept_profile.specs.Sets.{sets_with}
 use Rattle.cept_profile.specs.Valid.{AllValid}
 use Rattle.cept_profile.specs.Writing.{control_after_copies, working_after_repeat, working_after_read, graphic_result}
@@ -141,31 +141,31 @@ marker-same : (s : ControlState) (m : Marker) (fast : ℕ)
     → settings_of (control_with s (record (working_after_marker s m) { fast = fast })) ≡ settings_of s
 marker-same s m fast = working_ahead-same s s 1 s.working
 
-any_marker-same : (s : ControlState) (m : Option Marker) (fast : ℕ)
-    → settings_of (control_with s (record (working_after_any_marker s m) { fast = fast })) ≡ settings_of s
-any_marker-same s None fast = refl
-any_marker-same s (Some m) fast = marker-same s m fast
+serial-same : (attr : Option Attr) (m : Option Marker) (fast : ℕ) (s : ControlState)
+    → settings_of (control_with s (working_after_function c1sets.Serial attr m fast s)) ≡ settings_of s
+serial-same attr None fast s = refl
+serial-same attr (Some m) fast s = marker-same s m fast
 
-working_after_code-told : (set : C1Set) (n : ℕ) (s : ControlState) (earlier : List Command)
-    → settings_of (control_with (under set s) (working_after_code set n (under set s)))
+code-told : (set : C1Set) (n : ℕ) (s : ControlState) (earlier : List Command)
+    → settings_of (control_effect (under set s) (commands.C1 n))
     ≡ told earlier (commands.C1 n) (settings_of (under set s))
-working_after_code-told c1sets.Parallel n s earlier =
+code-told c1sets.Parallel n s earlier =
     any-told (attribute_of s.working.table n) (under c1sets.Parallel s) (fast_after_code n s.working.fast) earlier
-working_after_code-told c1sets.Serial n s earlier =
-    any_marker-same (under c1sets.Serial s) (marker_of s.working.table n) (fast_after_code n s.working.fast)
+code-told c1sets.Serial n s earlier =
+    serial-same (attribute_of s.working.table n) (marker_of s.working.table n) (fast_after_code n s.working.fast)
+    (under c1sets.Serial s)
 
-working_after_flash-told : (set : C1Set) (k : ℕ) (s : ControlState)
-    → settings_of (control_with s (working_after_flash set k s)) ≡ settings_of s
-working_after_flash-told c1sets.Parallel k s = refl
-working_after_flash-told c1sets.Serial k s =
-    marker-same s (markers.Flash (flash_of k s.working.fast)) (fast_after k s.working.fast)
+flash-told : (set : C1Set) (k : ℕ) (s : ControlState)
+    → settings_of (control_effect (under set s) (commands.FlashMode k)) ≡ settings_of (under set s)
+flash-told c1sets.Parallel k s = refl
+flash-told c1sets.Serial k s =
+    marker-same (under c1sets.Serial s) (markers.Flash (flash_of k s.working.fast)) (fast_after k s.working.fast)
 
-working_after_reveal-told : (set : C1Set) (s : ControlState) (earlier : List Command)
-    → settings_of (control_with (under set s) (working_after_reveal set (under set s)))
+reveal-told : (set : C1Set) (s : ControlState) (earlier : List Command)
+    → settings_of (control_effect (under set s) commands.StopConceal)
     ≡ told earlier commands.StopConceal (settings_of (under set s))
-working_after_reveal-told c1sets.Parallel s earlier = refl
-working_after_reveal-told c1sets.Serial s earlier =
-    marker-same (under c1sets.Serial s) (markers.Conceal false) (working_after_marker s (markers.Conceal false)).fast
+reveal-told c1sets.Parallel s earlier = refl
+reveal-told c1sets.Serial s earlier = marker-same (under c1sets.Serial s) (markers.Conceal false) s.working.fast
 
 -- a designation sets one of the four sets
 sets_with-told : (g : ℕ) (set : SetId) (s : ControlState) (earlier : List Command) → g ≤ 3
@@ -225,9 +225,9 @@ control_effect-told s commands.Forward earlier known valid ended = working_ahead
 control_effect-told s (commands.Designate g set) earlier known valid ended = sets_with-told g set s earlier valid
 control_effect-told s (commands.Graphic byte) earlier known valid ended = read-same s byte (graphic_result s byte).read
 control_effect-told s (commands.Repeat n) earlier known valid ended = working_after_repeat-same n s s.working.last
-control_effect-told s (commands.C1 n) earlier known valid ended = working_after_code-told s.working.c1 n s earlier
-control_effect-told s (commands.FlashMode k) earlier known valid ended = working_after_flash-told s.working.c1 k s
-control_effect-told s commands.StopConceal earlier known valid ended = working_after_reveal-told s.working.c1 s earlier
+control_effect-told s (commands.C1 n) earlier known valid ended = code-told s.working.c1 n s earlier
+control_effect-told s (commands.FlashMode k) earlier known valid ended = flash-told s.working.c1 k s
+control_effect-told s commands.StopConceal earlier known valid ended = reveal-told s.working.c1 s earlier
 control_effect-told s (commands.AreaDelete a b) earlier known valid ended =
     λ i. record (settings_of s) { area = area_without-told s.area a b earlier known i }
 control_effect-told s commands.ServiceEnd earlier known valid ended =
@@ -253,7 +253,7 @@ pub record IsTold (s : ControlState) (history : List Command) : Type 0 where
 
 -- what is kept doesn't depend on an accent
 Brings-same : (s : ControlState) (history : List Command) (kept : Option Working) → Brings s history kept
-    → Brings (control_with s (working_without_accent s.working)) history kept
+    → Brings (control_with s (record s.working { accent = None })) history kept
 Brings-same s history None brings = brings
 Brings-same s history (Some w) brings = brings
 
@@ -368,7 +368,7 @@ IsTold-effect s command earlier is valid = IsTold-on s command earlier is valid 
 IsTold-state_for_effect : (s : ControlState) (command : Command) (earlier : List Command) → IsTold s earlier
     → IsTold (state_for_effect s command) earlier
 IsTold-state_for_effect s command earlier is =
-    cond_both (finds_accent command) s.working (working_without_accent s.working)
+    cond_both (finds_accent command) s.working (record s.working { accent = None })
     (λ w. IsTold (control_with s w) earlier) (λ e. is)
     (λ e. record { settings = is.settings; running = λ r. Brings-same s earlier s.kept (is.running r); idle = is.idle })
 

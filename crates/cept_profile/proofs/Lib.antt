@@ -25,6 +25,8 @@ mod ClosedServices
 mod FirstGrid
 mod OneMoreState
 mod PartsByStrokes
+mod LastSaid
+mod WorkedLastSaid
 mod ValidParts
 mod ValidAttributes
 mod WorkedParts

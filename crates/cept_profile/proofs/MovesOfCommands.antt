@@ -1,4 +1,5 @@
 -- How many strokes of a command move rows: copies of a sign go over the end of a row once in forty columns.
+use Rattle.std.proofs.Common.{option_to_list, map}
 use Rattle.std.proofs.Common.{◌≡◌, ℕ, ◌+◌, ◌*◌, ◌≤◌, zero, suc, Bool, true, false, cond, leb, Option, Some, None}
 use Rattle.std.proofs.Common.{List, ◌++◌, length, refl, subst, inl, inr, arith}
 use Rattle.std.proofs.Common.{IfSome}
@@ -18,14 +19,14 @@ use Rattle.cept_codes.specs.declared.glyph.Glyph.{Glyph}
 use Rattle.cept_codes.specs.declared.glyph.Read.{Read}
 use Rattle.cept_codes.specs.declared.glyph.Read.TheVariants as reads
 use Rattle.cept_codes.specs.declared.stroke.Stroke.{Stroke}
+use Rattle.cept_codes.specs.declared.stroke.Stroke.TheVariants as strokes
 use Rattle.cept_codes.specs.Command.{IsValidCommand}
 use Rattle.cept_codes.specs.Glyph.{IsValidGlyph}
 use Rattle.cept_profile.specs.Cells.{moves_rows}
 use Rattle.cept_profile.specs.Control.{ControlState, Working, state_for_effect}
-use Rattle.cept_profile.specs.Markers.{marker_of, strokes_of_any_marker, strokes_of_marker}
+use Rattle.cept_profile.specs.Markers.{marker_of, strokes_of_marker}
 use Rattle.cept_profile.specs.Motions.{area_in_force, below_strokes, on_strokes, working_ahead}
-use Rattle.cept_profile.specs.Pens.{attribute_of, flash_of, strokes_of_code, strokes_of_flash, strokes_of_reveal}
-use Rattle.cept_profile.specs.Pens.{strokes_of_attribute, strokes_of_row_attribute}
+use Rattle.cept_profile.specs.Pens.{attribute_of, flash_of, strokes_of_function}
 use Rattle.cept_codes.specs.declared.attribute.Attr.{Attr}
 use Rattle.cept_profile.specs.Strokes.{strokes_of, strokes_when}
 use Rattle.cept_profile.specs.Tiling.{columns_of_size}
@@ -111,27 +112,17 @@ length-read s (reads.Glyph g) = omega (arith, length-on_strokes s (columns_of_si
 length-marker : (s : ControlState) (m : Marker) → length (strokes_of_marker s m) ≤ 2
 length-marker s m = omega (arith, length-on_strokes s 1)
 
-length-any_marker : (s : ControlState) (m : Option Marker) → length (strokes_of_any_marker s m) ≤ 2
-length-any_marker s None = omega arith
-length-any_marker s (Some m) = length-marker s m
+length-function : (s : ControlState) (c1 : C1Set) (m : Option Marker) → length (strokes_of_function c1 m s) ≤ 2
+length-function s c1sets.Parallel m = omega arith
+length-function s c1sets.Serial None = omega arith
+length-function s c1sets.Serial (Some m) = length-marker s m
 
-length-code : (s : ControlState) (c1 : C1Set) (n : ℕ) → length (strokes_of_code c1 n s) ≤ 2
-length-code s c1sets.Parallel n = omega arith
-length-code s c1sets.Serial n = length-any_marker s (marker_of s.working.table n)
-
-length-flash : (s : ControlState) (c1 : C1Set) (k : ℕ) → length (strokes_of_flash c1 k s) ≤ 2
-length-flash s c1sets.Parallel k = omega arith
-length-flash s c1sets.Serial k = length-marker s (markers.Flash (flash_of k s.working.fast))
-
-length-reveal : (s : ControlState) (c1 : C1Set) → length (strokes_of_reveal c1 s) ≤ 2
-length-reveal s c1sets.Parallel = omega arith
-length-reveal s c1sets.Serial = length-marker s (markers.Conceal false)
-
-length-attribute : (attr : Option Attr) → length (strokes_of_attribute attr) ≤ 2
+length-attribute : (attr : Option Attr) → length (map (λ attr. strokes.ScreenAttr attr) (option_to_list attr)) ≤ 2
 length-attribute None = omega arith
 length-attribute (Some attr) = omega arith
 
-length-row_attribute : (r : ℕ) (attr : Option Attr) → length (strokes_of_row_attribute r attr) ≤ 2
+length-row_attribute : (r : ℕ) (attr : Option Attr)
+    → length (map (λ attr. strokes.RowAttr r attr) (option_to_list attr)) ≤ 2
 length-row_attribute r None = omega arith
 length-row_attribute r (Some attr) = omega arith
 
@@ -148,9 +139,12 @@ moves-strokes_when s commands.ScrollDown is valid =
 moves-strokes_when s (commands.Graphic byte) is valid =
     moves-few _ 2 (length-read s (graphic_result s byte).read) (omega arith)
 moves-strokes_when s (commands.Repeat n) is valid = moves-repeat n s s.working.last is refl valid
-moves-strokes_when s (commands.C1 n) is valid = moves-few _ 2 (length-code s s.working.c1 n) (omega arith)
-moves-strokes_when s (commands.FlashMode k) is valid = moves-few _ 2 (length-flash s s.working.c1 k) (omega arith)
-moves-strokes_when s commands.StopConceal is valid = moves-few _ 2 (length-reveal s s.working.c1) (omega arith)
+moves-strokes_when s (commands.C1 n) is valid =
+    moves-few _ 2 (length-function s s.working.c1 (marker_of s.working.table n)) (omega arith)
+moves-strokes_when s (commands.FlashMode k) is valid =
+    moves-few _ 2 (length-function s s.working.c1 (Some (markers.Flash (flash_of k s.working.fast)))) (omega arith)
+moves-strokes_when s commands.StopConceal is valid =
+    moves-few _ 2 (length-function s s.working.c1 (Some (markers.Conceal false))) (omega arith)
 moves-strokes_when s (commands.FullScreen n) is valid =
     moves-few _ 2 (length-attribute (attribute_of s.working.table n)) (omega arith)
 moves-strokes_when s (commands.FullRow n) is valid =

@@ -1,6 +1,6 @@
 -- Valid control: the initial state is valid, and every valid command keeps it valid.
-use Rattle.std.proofs.Common.{◌≡◌, ◌⊎◌, ℕ, ◌+◌, ◌-◌, ◌≤◌, ◌&&◌, zero, suc, Bool, false, min, cond, eqb, leb, rules}
-use Rattle.std.proofs.Common.{Option, Some, None, unwrap_or, inl, inr, refl, subst, arith}
+use Rattle.std.proofs.Common.{◌≡◌, ◌⊎◌, ℕ, ◌+◌, ◌-◌, ◌≤◌, ◌&&◌, ◌||◌, zero, suc, Bool, false, min, cond, eqb, leb}
+use Rattle.std.proofs.Common.{rules, Option, Some, None, unwrap_or, inl, inr, refl, subst, arith}
 use Rattle.std.specs.Prelude.{IfSome}
 use Rattle.std.proofs.lemmas.Bool.{cond_both, eqb-false, leb-true}
 use Rattle.std.proofs.lemmas.Bool.Decides.{nat_tests}
@@ -25,15 +25,15 @@ use Rattle.cept_codes.specs.Command.{IsArea, IsGraphic, IsValidCommand}
 use Rattle.cept_codes.specs.Glyph.{IsCodeOf, IsValidGlyph}
 use Rattle.cept_codes.specs.Place.{OnScreen}
 use Rattle.cept_profile.specs.Control.{Working, ControlState, initial_control, initial_sets, initial_working}
-use Rattle.cept_profile.specs.Control.{control_with, working_at, working_with_sets, with_c1}
-use Rattle.cept_profile.specs.Control.{working_without_run, working_without_pen, working_without_accent, finds_accent}
+use Rattle.cept_profile.specs.Control.{control_with, working_at, working_with_sets}
+use Rattle.cept_profile.specs.Control.{working_without_run, working_without_pen, finds_accent}
 use Rattle.cept_profile.specs.Control.{control_after_service, working_by_default}
 use Rattle.cept_profile.specs.Control.{area_without, state_for_effect, control_effect, control_after}
-use Rattle.cept_profile.specs.Markers.{marker_of, run_after, step_after, working_after_any_marker, working_after_marker}
+use Rattle.cept_profile.specs.Markers.{marker_of, run_after, step_after, working_after_marker}
 use Rattle.cept_profile.specs.Motions.{is_first_of, is_last_of, row_below, row_above, scrolling_area, working_ahead}
 use Rattle.cept_profile.specs.Motions.{working_back}
-use Rattle.cept_profile.specs.Pens.{attribute_of, pen_with, pen_with_any, is_flash, working_after_code, fast_after}
-use Rattle.cept_profile.specs.Pens.{fast_after_code, flash_of, working_after_flash, working_after_reveal}
+use Rattle.cept_profile.specs.Pens.{attribute_of, pen_with, pen_with_any, fast_after}
+use Rattle.cept_profile.specs.Pens.{fast_after_code, flash_of, working_after_function}
 use Rattle.cept_profile.specs.Sets.{Sets, IsAccent, IsValidRead, code_of, sets_with, sets_with_left, sets_with_right}
 use Rattle.cept_profile.specs.Sets.{set_of, sets_with_single, sets_without_single}
 use Rattle.cept_profile.specs.Tiling.{columns_of_size}
@@ -222,7 +222,7 @@ fast_after-in_range mode fast low = grind (arith, nat_tests)
 
 -- the fast flash after a code of flash or another
 fast_after_code-in_range : (n fast : ℕ) → fast ≤ 3 → fast_after_code n fast ≤ 3
-fast_after_code-in_range n fast low = cond_both (is_flash n) 0 fast (λ k. k ≤ 3) (λ e. omega arith) (λ e. low)
+fast_after_code-in_range n fast low = cond_both (eqb n 8 || eqb n 9) 0 fast (λ k. k ≤ 3) (λ e. omega arith) (λ e. low)
 
 -- a sign takes one column or two
 columns_of_size-in_range : (size : Size) → (columns_of_size size ≡ 1) ⊎ (columns_of_size size ≡ 2)
@@ -252,49 +252,19 @@ IsWithin-marker s m is =
     IsWithin-run s.rows (run_after m s.working.run) (step_after m s.working.step) (working_ahead s 1 s.working)
     (IsWithin-working_ahead s 1 is) (step_after-in_range m s.working.step is.working.step)
 
-IsWithin-any_marker : (s : ControlState) (m : Option Marker) → IsValidControl s
-    → IsWithin s.rows (working_after_any_marker s m)
-IsWithin-any_marker s None is = IsWithin-control s is
-IsWithin-any_marker s (Some m) is = IsWithin-marker s m is
-
-IsWithin-working_after_code : (s : ControlState) (c1 : C1Set) (n : ℕ) → IsValidControl s
-    → IsWithin s.rows (working_after_code c1 n s)
-IsWithin-working_after_code s c1sets.Parallel n is =
-    IsWithin-pen s.rows (pen_with_any (attribute_of s.working.table n) s.working.pen)
-    (fast_after_code n s.working.fast) s.working
-    (IsWithin-control s is)
-    (IsValidPen-pen_with_any (attribute_of s.working.table n) s.working.pen
-    (IsValid-attribute_of s.working.table n is.working.table)
-    is.working.pen)
-    (fast_after_code-in_range n s.working.fast is.working.fast)
-IsWithin-working_after_code s c1sets.Serial n is =
-    IsWithin-fast s.rows (fast_after_code n s.working.fast) (working_after_any_marker s (marker_of s.working.table n))
-    (IsWithin-any_marker s (marker_of s.working.table n) is)
-    (fast_after_code-in_range n s.working.fast is.working.fast)
-
-IsWithin-working_after_flash : (s : ControlState) (c1 : C1Set) (mode : ℕ) → IsValidControl s
-    → IsWithin s.rows (working_after_flash c1 mode s)
-IsWithin-working_after_flash s c1sets.Parallel mode is =
-    IsWithin-pen s.rows (pen_with (attrs.Flash (flash_of mode s.working.fast)) s.working.pen)
-    (fast_after mode s.working.fast)
-    s.working (IsWithin-control s is)
-    (IsValidPen-pen_with (attrs.Flash (flash_of mode s.working.fast)) s.working.pen tt is.working.pen)
-    (fast_after-in_range mode s.working.fast is.working.fast)
-IsWithin-working_after_flash s c1sets.Serial mode is =
-    let m = markers.Flash (flash_of mode s.working.fast) in
-    IsWithin-fast s.rows (fast_after mode s.working.fast) (working_after_marker s m) (IsWithin-marker s m is)
-    (fast_after-in_range mode s.working.fast is.working.fast)
-
-IsWithin-working_after_reveal : (s : ControlState) (c1 : C1Set) → IsValidControl s
-    → IsWithin s.rows (working_after_reveal c1 s)
-IsWithin-working_after_reveal s c1sets.Parallel is =
-    IsWithin-pen s.rows (pen_with (attrs.Conceal false) s.working.pen) s.working.fast s.working (IsWithin-control s is)
-    (IsValidPen-pen_with (attrs.Conceal false) s.working.pen tt is.working.pen) is.working.fast
-IsWithin-working_after_reveal s c1sets.Serial is = IsWithin-marker s (markers.Conceal false) is
+IsWithin-working_after_function : (c1 : C1Set) (attr : Option Attr) (m : Option Marker) (fast : ℕ) (s : ControlState)
+    → IsValidControl s → IfSome attr IsValidAttr → fast ≤ 3 → IsWithin s.rows (working_after_function c1 attr m fast s)
+IsWithin-working_after_function c1sets.Parallel attr m fast s is valid low =
+    IsWithin-pen s.rows (pen_with_any attr s.working.pen) fast s.working (IsWithin-control s is)
+    (IsValidPen-pen_with_any attr s.working.pen valid is.working.pen) low
+IsWithin-working_after_function c1sets.Serial attr None fast s is valid low =
+    IsWithin-fast s.rows fast s.working (IsWithin-control s is) low
+IsWithin-working_after_function c1sets.Serial attr (Some m) fast s is valid low =
+    IsWithin-fast s.rows fast (working_after_marker s m) (IsWithin-marker s m is) low
 
 -- under another C1 set
-IsWithin-with_c1 : (rows : ℕ) (set : C1Set) (w : Working) → IsWithin rows w → IsWithin rows (with_c1 set w)
-IsWithin-with_c1 rows set w is = assumption
+IsWithin-c1 : (rows : ℕ) (set : C1Set) (w : Working) → IsWithin rows w → IsWithin rows (record w { c1 = set })
+IsWithin-c1 rows set w is = assumption
 
 -- with another colour table
 IsWithin-with_table : (rows k : ℕ) (w : Working) → IsWithin rows w → k ≤ 3 → IsWithin rows (record w { table = k })
@@ -415,10 +385,10 @@ IsValidControl-sets s sets is valid =
     (IsWithin-working_with_sets s.rows sets s.working (IsWithin-control s is) valid)
 
 -- the state without an accent that waits
-IsValidControl-working_without_accent : (s : ControlState) → IsValidControl s
-    → IsValidControl (control_with s (working_without_accent s.working))
-IsValidControl-working_without_accent s is =
-    IsValidControl-control_with s (working_without_accent s.working) is
+IsValidControl-without_accent : (s : ControlState) → IsValidControl s
+    → IsValidControl (control_with s (record s.working { accent = None }))
+IsValidControl-without_accent s is =
+    IsValidControl-control_with s (record s.working { accent = None }) is
     (IsWithin-accent s.rows None s.working (IsWithin-control s is) tt)
 
 -- an area that stays is one
@@ -489,15 +459,23 @@ IsValidControl-control_effect s (commands.Graphic byte) is valid =
 IsValidControl-control_effect s (commands.Repeat n) is valid =
     IsValidControl-working s is (IsWithin-working_after_repeat n s s.working.last is is.working.last)
 IsValidControl-control_effect s (commands.C1 n) is valid =
-    IsValidControl-working s is (IsWithin-working_after_code s s.working.c1 n is)
+    IsValidControl-working s is
+    (IsWithin-working_after_function s.working.c1 (attribute_of s.working.table n) (marker_of s.working.table n)
+    (fast_after_code n s.working.fast) s is (IsValid-attribute_of s.working.table n is.working.table)
+    (fast_after_code-in_range n s.working.fast is.working.fast))
 IsValidControl-control_effect s (commands.DesignateC1 set) is valid =
     IsValidControl-working s is
-    (IsWithin-working_without_run s.rows (with_c1 set s.working)
-    (IsWithin-with_c1 s.rows set s.working (IsWithin-control s is)))
+    (IsWithin-working_without_run s.rows (record s.working { c1 = set })
+    (IsWithin-c1 s.rows set s.working (IsWithin-control s is)))
 IsValidControl-control_effect s (commands.FlashMode k) is valid =
-    IsValidControl-working s is (IsWithin-working_after_flash s s.working.c1 k is)
+    IsValidControl-working s is
+    (IsWithin-working_after_function s.working.c1 (Some (attrs.Flash (flash_of k s.working.fast)))
+    (Some (markers.Flash (flash_of k s.working.fast))) (fast_after k s.working.fast) s is tt
+    (fast_after-in_range k s.working.fast is.working.fast))
 IsValidControl-control_effect s commands.StopConceal is valid =
-    IsValidControl-working s is (IsWithin-working_after_reveal s s.working.c1 is)
+    IsValidControl-working s is
+    (IsWithin-working_after_function s.working.c1 (Some (attrs.Conceal false)) (Some (markers.Conceal false))
+    s.working.fast s is tt is.working.fast)
 IsValidControl-control_effect s (commands.Table k) is valid =
     IsValidControl-working s is (IsWithin-with_table s.rows k s.working (IsWithin-control s is) valid)
 IsValidControl-control_effect s (commands.Format rows wrap) is valid = search rules
@@ -525,8 +503,8 @@ IsValidControl-control_effect s _ is valid = is
 pub IsValidControl-state_for_effect : (s : ControlState) (command : Command) → IsValidControl s
     → IsValidControl (state_for_effect s command)
 IsValidControl-state_for_effect s command is =
-    cond_both (finds_accent command) s.working (working_without_accent s.working)
-    (λ (w : Working). IsValidControl (control_with s w)) (λ e. is) (λ e. IsValidControl-working_without_accent s is)
+    cond_both (finds_accent command) s.working (record s.working { accent = None })
+    (λ (w : Working). IsValidControl (control_with s w)) (λ e. is) (λ e. IsValidControl-without_accent s is)
 
 pub IsValidControl-control_after : (s : ControlState) (command : Command) → IsValidControl s → IsValidCommand command
     → IsValidControl (control_after s command)

@@ -1,4 +1,5 @@
 -- Valid pages: the strokes of a valid command in a valid state keep them valid.
+use Rattle.std.proofs.Common.{option_to_list, map}
 use Rattle.std.proofs.Common.{rules, rules}
 use Rattle.std.proofs.Common.{◌≡◌, ℕ, ◌+◌, ◌-◌, ◌<◌, ◌≤◌, zero, suc, Bool, true, false, not, ◌&&◌, cond, eqb, leb, ltb, Option}
 use Rattle.std.proofs.Common.{Some, None, List, [], ◌∷◌, ◌++◌, length, refl, sym, ◌∙◌, subst, arith, ◌⊎◌, inl, inr}
@@ -32,12 +33,11 @@ use Rattle.cept_codes.specs.Table.{table, value_at, IsTable}
 use Rattle.cept_codes.proofs.Laws.{value_at-table, IsTable-table}
 use Rattle.cept_profile.specs.Cells.{is_at, cell_after, cells_after, cells_after_all}
 use Rattle.cept_profile.specs.Control.{ControlState, state_for_effect}
-use Rattle.cept_profile.specs.Markers.{marker_of, strokes_of_any_marker, strokes_of_marker}
+use Rattle.cept_profile.specs.Markers.{marker_of, strokes_of_marker}
 use Rattle.cept_profile.specs.Control.{Working, control_after, control_after_service, control_effect}
 use Rattle.cept_profile.specs.Motions.{area_in_force, area_within, back_strokes, on_strokes, scrolling_area}
 use Rattle.cept_profile.specs.Motions.{scroll_under, strokes_of_scroll}
-use Rattle.cept_profile.specs.Pens.{attribute_of, flash_of, strokes_of_attribute, strokes_of_code}
-use Rattle.cept_profile.specs.Pens.{strokes_of_flash, strokes_of_reveal, strokes_of_row_attribute}
+use Rattle.cept_profile.specs.Pens.{attribute_of, flash_of, strokes_of_function}
 use Rattle.cept_profile.specs.Sets.{IsValidRead}
 use Rattle.cept_profile.specs.Strokes.{strokes_when, strokes_of}
 use Rattle.cept_profile.specs.Valid.{IsValidControl}
@@ -307,10 +307,11 @@ IsSafe-marker : (s : ControlState) (m : Marker) → IsValidControl s → IsValid
 IsSafe-marker s m is valid =
     ((is.working.place, is.within, valid, λ blank_is. absurd (marker_is_not_blank m blank_is)), IsSafe-on_strokes s 1 is)
 
-IsSafe-any_marker : (s : ControlState) (m : Option Marker) → IsValidControl s → IfSome m IsValidMarker
-    → AllByRecursion (IsSafe s.rows) (strokes_of_any_marker s m)
-IsSafe-any_marker s None is valid = tt
-IsSafe-any_marker s (Some m) is valid = IsSafe-marker s m is valid
+IsSafe-function : (s : ControlState) (c1 : C1Set) (m : Option Marker) → IsValidControl s → IfSome m IsValidMarker
+    → AllByRecursion (IsSafe s.rows) (strokes_of_function c1 m s)
+IsSafe-function s c1sets.Parallel m is valid = tt
+IsSafe-function s c1sets.Serial None is valid = tt
+IsSafe-function s c1sets.Serial (Some m) is valid = IsSafe-marker s m is valid
 
 -- a marker, or none, of a choice
 IsValid-choice : (test : Bool) (x y : Option Marker) → (test ≡ true → IfSome x IsValidMarker)
@@ -338,31 +339,15 @@ IsValid-marker_of table n low =
     (λ _. IsValid-choice (eqb n 31) _ _ (λ _. tt)
     (λ _. tt)))))))))))))))))
 
-IsSafe-code : (s : ControlState) (c1 : C1Set) (n : ℕ) → IsValidControl s
-    → AllByRecursion (IsSafe s.rows) (strokes_of_code c1 n s)
-IsSafe-code s c1sets.Parallel n is = tt
-IsSafe-code s c1sets.Serial n is =
-    IsSafe-any_marker s (marker_of s.working.table n) is (IsValid-marker_of s.working.table n is.working.table)
-
-IsSafe-flash : (s : ControlState) (c1 : C1Set) (k : ℕ) → IsValidControl s
-    → AllByRecursion (IsSafe s.rows) (strokes_of_flash c1 k s)
-IsSafe-flash s c1sets.Parallel k is = tt
-IsSafe-flash s c1sets.Serial k is = IsSafe-marker s (markers.Flash (flash_of k s.working.fast)) is tt
-
-IsSafe-reveal : (s : ControlState) (c1 : C1Set) → IsValidControl s
-    → AllByRecursion (IsSafe s.rows) (strokes_of_reveal c1 s)
-IsSafe-reveal s c1sets.Parallel is = tt
-IsSafe-reveal s c1sets.Serial is = IsSafe-marker s (markers.Conceal false) is tt
-
 -- an attribute of the active row, and one of the screen
 IsSafe-row_attribute : (s : ControlState) (attr : Option Attr) → IsValidControl s → IfSome attr IsRowAttr
-    → AllByRecursion (IsSafe s.rows) (strokes_of_row_attribute s.working.row attr)
+    → AllByRecursion (IsSafe s.rows) (map (λ attr. strokes.RowAttr s.working.row attr) (option_to_list attr))
 IsSafe-row_attribute s None is valid = tt
 IsSafe-row_attribute s (Some attr) is valid =
     ((is.within, (is.working.place.from_top, is.working.place.to_bottom), valid), tt)
 
 IsSafe-attribute : (s : ControlState) (attr : Option Attr) → IfSome attr IsScreenAttr
-    → AllByRecursion (IsSafe s.rows) (strokes_of_attribute attr)
+    → AllByRecursion (IsSafe s.rows) (map (λ attr. strokes.ScreenAttr attr) (option_to_list attr))
 IsSafe-attribute s None valid = tt
 IsSafe-attribute s (Some attr) valid = (valid, tt)
 
@@ -393,9 +378,19 @@ IsSafe-strokes_when s commands.Clear is valid = inl (((tt, tt)), refl)
 IsSafe-strokes_when s (commands.Graphic byte) is valid = inl ((IsSafe-strokes_of_read s (graphic_result s byte).read is (IsValidRead-graphic_result s byte valid)), refl)
 IsSafe-strokes_when s (commands.Repeat n) is valid = inl ((IsSafe-strokes_of_repeat n s s.working.last is is.working.last), refl)
 IsSafe-strokes_when s commands.Cancel is valid = inl (((is.working.place, tt)), refl)
-IsSafe-strokes_when s (commands.C1 n) is valid = inl ((IsSafe-code s s.working.c1 n is), refl)
-IsSafe-strokes_when s (commands.FlashMode k) is valid = inl ((IsSafe-flash s s.working.c1 k is), refl)
-IsSafe-strokes_when s commands.StopConceal is valid = inl ((IsSafe-reveal s s.working.c1 is), refl)
+IsSafe-strokes_when s (commands.C1 n) is valid = inl (
+  (IsSafe-function s s.working.c1 (marker_of s.working.table n) is
+      (IsValid-marker_of s.working.table n is.working.table)),
+  refl,
+)
+IsSafe-strokes_when s (commands.FlashMode k) is valid = inl (
+  (IsSafe-function s s.working.c1 (Some (markers.Flash (flash_of k s.working.fast))) is tt),
+  refl,
+)
+IsSafe-strokes_when s commands.StopConceal is valid = inl (
+  (IsSafe-function s s.working.c1 (Some (markers.Conceal false)) is tt),
+  refl,
+)
 IsSafe-strokes_when s (commands.FullScreen n) is valid = inl (
   (IsSafe-attribute s (attribute_of s.working.table n)
       (IsScreenAttr-attribute_of s.working.table n is.working.table valid)),
@@ -457,27 +452,17 @@ length-strokes_of_repeat n s (Some g) low = omega (arith, length-strokes_of_copi
 length-marker : (s : ControlState) (m : Marker) → length (strokes_of_marker s m) ≤ 128
 length-marker s m = omega (arith, length-on_strokes s 1)
 
-length-any_marker : (s : ControlState) (m : Option Marker) → length (strokes_of_any_marker s m) ≤ 128
-length-any_marker s None = omega arith
-length-any_marker s (Some m) = length-marker s m
+length-function : (s : ControlState) (c1 : C1Set) (m : Option Marker) → length (strokes_of_function c1 m s) ≤ 128
+length-function s c1sets.Parallel m = omega arith
+length-function s c1sets.Serial None = omega arith
+length-function s c1sets.Serial (Some m) = length-marker s m
 
-length-code : (s : ControlState) (c1 : C1Set) (n : ℕ) → length (strokes_of_code c1 n s) ≤ 128
-length-code s c1sets.Parallel n = omega arith
-length-code s c1sets.Serial n = length-any_marker s (marker_of s.working.table n)
-
-length-flash : (s : ControlState) (c1 : C1Set) (k : ℕ) → length (strokes_of_flash c1 k s) ≤ 128
-length-flash s c1sets.Parallel k = omega arith
-length-flash s c1sets.Serial k = length-marker s (markers.Flash (flash_of k s.working.fast))
-
-length-reveal : (s : ControlState) (c1 : C1Set) → length (strokes_of_reveal c1 s) ≤ 128
-length-reveal s c1sets.Parallel = omega arith
-length-reveal s c1sets.Serial = length-marker s (markers.Conceal false)
-
-length-row_attribute : (r : ℕ) (attr : Option Attr) → length (strokes_of_row_attribute r attr) ≤ 128
+length-row_attribute : (r : ℕ) (attr : Option Attr)
+    → length (map (λ attr. strokes.RowAttr r attr) (option_to_list attr)) ≤ 128
 length-row_attribute r None = omega arith
 length-row_attribute r (Some attr) = omega arith
 
-length-attribute : (attr : Option Attr) → length (strokes_of_attribute attr) ≤ 128
+length-attribute : (attr : Option Attr) → length (map (λ attr. strokes.ScreenAttr attr) (option_to_list attr)) ≤ 128
 length-attribute None = omega arith
 length-attribute (Some attr) = omega arith
 
@@ -492,9 +477,10 @@ length-strokes_when s commands.ScrollDown valid = omega (arith, length-strokes_o
 length-strokes_when s commands.Clear valid = omega arith
 length-strokes_when s (commands.Graphic byte) valid = length-strokes_of_read s (graphic_result s byte).read
 length-strokes_when s (commands.Repeat n) valid = length-strokes_of_repeat n s s.working.last valid
-length-strokes_when s (commands.C1 n) valid = length-code s s.working.c1 n
-length-strokes_when s (commands.FlashMode k) valid = length-flash s s.working.c1 k
-length-strokes_when s commands.StopConceal valid = length-reveal s s.working.c1
+length-strokes_when s (commands.C1 n) valid = length-function s s.working.c1 (marker_of s.working.table n)
+length-strokes_when s (commands.FlashMode k) valid =
+    length-function s s.working.c1 (Some (markers.Flash (flash_of k s.working.fast)))
+length-strokes_when s commands.StopConceal valid = length-function s s.working.c1 (Some (markers.Conceal false))
 length-strokes_when s (commands.FullScreen n) valid = length-attribute (attribute_of s.working.table n)
 length-strokes_when s (commands.FullRow n) valid =
     length-row_attribute s.working.row (attribute_of s.working.table n)

@@ -1,7 +1,10 @@
 -- Accents and single shifts: how long they wait.
 use Rattle.std.proofs.Common.{◌≡◌, ℕ, ◌+◌, ◌-◌, zero, suc, false, cond, eqb, leb, Option, Some, None, unwrap_or, refl, sym, ap}
 use Rattle.std.proofs.lemmas.Bool.{cond_both, false≢true}
+use Rattle.cept_codes.specs.declared.attribute.Attr.{Attr}
+use Rattle.cept_codes.specs.declared.attribute.Attr.TheVariants as attrs
 use Rattle.cept_codes.specs.declared.cell.Marker.{Marker}
+use Rattle.cept_codes.specs.declared.cell.Marker.TheVariants as markers
 use Rattle.cept_codes.specs.declared.command.C1Set.{C1Set}
 use Rattle.cept_codes.specs.declared.command.C1Set.TheVariants as c1sets
 use Rattle.cept_codes.specs.declared.command.Command.{Command}
@@ -9,11 +12,11 @@ use Rattle.cept_codes.specs.declared.command.Command.TheVariants as commands
 use Rattle.cept_codes.specs.declared.glyph.Glyph.{Glyph}
 use Rattle.cept_codes.specs.declared.glyph.Read.{Read}
 use Rattle.cept_codes.specs.declared.glyph.Read.TheVariants as reads
-use Rattle.cept_profile.specs.Control.{Working, ControlState, working_at, working_without_accent, leaves_accent}
+use Rattle.cept_profile.specs.Control.{Working, ControlState, working_at, leaves_accent}
 use Rattle.cept_profile.specs.Control.{state_for_effect, control_after, control_after_service}
-use Rattle.cept_profile.specs.Markers.{marker_of, working_after_any_marker}
+use Rattle.cept_profile.specs.Markers.{marker_of}
 use Rattle.cept_profile.specs.Motions.{row_below, row_above, working_ahead, working_back}
-use Rattle.cept_profile.specs.Pens.{working_after_code, working_after_flash, working_after_reveal}
+use Rattle.cept_profile.specs.Pens.{attribute_of, fast_after, fast_after_code, flash_of, working_after_function}
 use Rattle.cept_profile.specs.Writing.{control_after_copies, working_after_repeat, sign_with_accent, working_after_read}
 use Rattle.cept_profile.specs.Writing.{columns_of_sign, graphic_result, control_with_result}
 
@@ -54,23 +57,11 @@ working_after_repeat-accent n s None none = none
 working_after_repeat-accent n s (Some g) none = control_after_copies-accent n s g none
 
 -- and so do pens and markers
-marker-accent : (s : ControlState) (m : Option Marker) → (working_after_any_marker s m).accent ≡ s.working.accent
-marker-accent s None = refl
-marker-accent s (Some m) = working_ahead-accent s 1 s.working
-
-working_after_code-accent : (set : C1Set) (n : ℕ) (s : ControlState)
-    → (working_after_code set n s).accent ≡ s.working.accent
-working_after_code-accent c1sets.Parallel n s = refl
-working_after_code-accent c1sets.Serial n s = marker-accent s (marker_of s.working.table n)
-
-working_after_flash-accent : (set : C1Set) (k : ℕ) (s : ControlState)
-    → (working_after_flash set k s).accent ≡ s.working.accent
-working_after_flash-accent c1sets.Parallel k s = refl
-working_after_flash-accent c1sets.Serial k s = working_ahead-accent s 1 s.working
-
-working_after_reveal-accent : (set : C1Set) (s : ControlState) → (working_after_reveal set s).accent ≡ s.working.accent
-working_after_reveal-accent c1sets.Parallel s = refl
-working_after_reveal-accent c1sets.Serial s = working_ahead-accent s 1 s.working
+working_after_function-accent : (set : C1Set) (attr : Option Attr) (m : Option Marker) (fast : ℕ) (s : ControlState)
+    → (working_after_function set attr m fast s).accent ≡ s.working.accent
+working_after_function-accent c1sets.Parallel attr m fast s = refl
+working_after_function-accent c1sets.Serial attr None fast s = refl
+working_after_function-accent c1sets.Serial attr (Some m) fast s = working_ahead-accent s 1 s.working
 
 -- every other command drops it
 pub accent-dropped : (s : ControlState) (command : Command) → leaves_accent command ≡ false
@@ -79,16 +70,21 @@ accent-dropped s commands.Nul drops ended = absurd (false≢true (sym drops))
 accent-dropped s commands.Skipped drops ended = absurd (false≢true (sym drops))
 accent-dropped s (commands.Graphic byte) drops ended = absurd (false≢true (sym drops))
 accent-dropped s commands.Back drops ended =
-    working_back-accent (state_for_effect s commands.Back) (working_without_accent s.working)
+    working_back-accent (state_for_effect s commands.Back) (record s.working { accent = None })
 accent-dropped s commands.Forward drops ended =
-    working_ahead-accent (state_for_effect s commands.Forward) 1 (working_without_accent s.working)
+    working_ahead-accent (state_for_effect s commands.Forward) 1 (record s.working { accent = None })
 accent-dropped s (commands.Repeat n) drops ended =
     working_after_repeat-accent n (state_for_effect s (commands.Repeat n)) s.working.last refl
-accent-dropped s (commands.C1 n) drops ended = working_after_code-accent s.working.c1 n (state_for_effect s (commands.C1 n))
+accent-dropped s (commands.C1 n) drops ended =
+    working_after_function-accent s.working.c1 (attribute_of s.working.table n) (marker_of s.working.table n)
+    (fast_after_code n s.working.fast) (state_for_effect s (commands.C1 n))
 accent-dropped s (commands.FlashMode k) drops ended =
-    working_after_flash-accent s.working.c1 k (state_for_effect s (commands.FlashMode k))
+    working_after_function-accent s.working.c1 (Some (attrs.Flash (flash_of k s.working.fast)))
+    (Some (markers.Flash (flash_of k s.working.fast))) (fast_after k s.working.fast)
+    (state_for_effect s (commands.FlashMode k))
 accent-dropped s commands.StopConceal drops ended =
-    working_after_reveal-accent s.working.c1 (state_for_effect s commands.StopConceal)
+    working_after_function-accent s.working.c1 (Some (attrs.Conceal false)) (Some (markers.Conceal false))
+    s.working.fast (state_for_effect s commands.StopConceal)
 accent-dropped s commands.ServiceEnd drops ended =
     ap (λ (kept : Option Working). (control_after_service (state_for_effect s commands.ServiceEnd) kept).working.accent)
     (ended refl)

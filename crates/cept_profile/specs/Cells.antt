@@ -15,8 +15,7 @@ use Rattle.cept_profile.specs.MovedRows.{MovedRows, moved_rows}
 abbrev pub is_at : Place → ℕ → ℕ → Bool
 is_at p r c = p.row == r && p.column == c
 
--- what is at row r after the rows of an area went one up or down, by what was at each row, with a blank one for the
--- last or the first
+-- what is at row r after the rows of an area went one up or down, by what was at each row; the last or first is blank
 abbrev pub shifted : {X : Type 0} → Up → ℕ → ℕ → X → (ℕ → X) → ℕ → X
 shifted ways.Up first last blank was r =
     if nat_le first r && nat_le r last then (if r == last then blank else was (r + 1)) else was r

@@ -21,8 +21,7 @@ default_paints =
 abbrev pub default_paint : ℕ → Paint
 default_paint i = slice_index_or default_paints (i % 16) black_paint
 
--- the paint of the foreground by the paints of the entries: that of its entry, and under invert that of the
--- background's
+-- the paint of the foreground by those of the entries: that of its entry, and under invert that of the background's
 abbrev pub fore_paint : (ℕ → Paint) → Full → Paint
 fore_paint paint_of f = paint_of (if f.invert then f.back else f.fore)
 

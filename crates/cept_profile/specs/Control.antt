@@ -2,22 +2,19 @@
 -- code extension after ISO 2022). What ends a mosaic run, unsets the pen or drops an accent, that the row of a position
 -- is cut to the format, colour tables, and what formats, defaults and services keep are this profile's own.
 use Rattle.std.specs.Prelude.{ℕ, Bool, true, false, ◌==◌, ◌&&◌, Option, Some, None, List, [], ◌∷◌, reverse, min, if◌then◌else◌, unwrap_or}
+use Rattle.cept_codes.specs.declared.attribute.Attr.TheVariants as attrs
+use Rattle.cept_codes.specs.declared.cell.Marker.TheVariants as markers
 use Rattle.cept_codes.specs.declared.command.Command.{Command}
 use Rattle.cept_codes.specs.declared.command.Command.TheVariants as commands
 use Rattle.cept_codes.specs.declared.command.C1Set.TheVariants as c1sets
+use Rattle.cept_profile.specs.Markers.{marker_of}
 use Rattle.cept_profile.specs.Motions.{row_below, row_above, working_ahead, working_back}
-use Rattle.cept_profile.specs.Pens.{working_after_code, working_after_flash, working_after_reveal}
+use Rattle.cept_profile.specs.Pens.{attribute_of, fast_after, fast_after_code, flash_of, working_after_function}
 use Rattle.cept_profile.specs.Sets.{sets_with, sets_with_left, sets_with_right, sets_with_single}
 use Rattle.cept_profile.specs.Writing.{working_after_repeat, working_after_read, graphic_result, control_with_result}
 pub use Rattle.cept_profile.specs.Working.{Working, ControlState, Sets, initial_sets, initial_working, initial_control}
-pub use Rattle.cept_profile.specs.Working.{
-  control_with,
-  working_at,
-  working_with_sets,
-  with_c1,
-  working_without_run,
-}
-pub use Rattle.cept_profile.specs.Working.{working_by_default, working_without_pen, working_without_accent}
+pub use Rattle.cept_profile.specs.Working.{control_with, working_at, working_with_sets, working_without_run}
+pub use Rattle.cept_profile.specs.Working.{working_by_default, working_without_pen}
 
 -- every command but these drops an accent that waits
 abbrev pub leaves_accent : Command → Bool
@@ -26,16 +23,15 @@ leaves_accent commands.Skipped = true
 leaves_accent (commands.Graphic byte) = true
 leaves_accent _ = false
 
--- every command but these takes effect without the accent: a break of the service finds it, since the state that it
--- keeps for the service's end has it
+-- every command but these takes effect without the accent; the state that a break of the service keeps has it
 abbrev pub finds_accent : Command → Bool
 finds_accent (commands.ServiceBreak row) = true
 finds_accent command = leaves_accent command
 
 -- the state in which a command takes effect
 abbrev pub state_for_effect : ControlState → Command → ControlState
-state_for_effect s command = control_with s (if finds_accent command then s.working
-    else working_without_accent s.working)
+state_for_effect s command =
+    control_with s (if finds_accent command then s.working else record s.working { accent = None })
 
 -- the state after a service: what it kept comes back, its row cut to the format, and nothing is kept
 abbrev pub control_after_service : ControlState → Option Working → ControlState
@@ -70,10 +66,16 @@ control_effect s (commands.Designate g set) =
 control_effect s (commands.Graphic byte) =
     control_with s (working_after_read (control_with_result s byte) (graphic_result s byte).read)
 control_effect s (commands.Repeat n) = control_with s (working_after_repeat n s s.working.last)
-control_effect s (commands.C1 n) = control_with s (working_after_code s.working.c1 n s)
-control_effect s (commands.FlashMode k) = control_with s (working_after_flash s.working.c1 k s)
-control_effect s commands.StopConceal = control_with s (working_after_reveal s.working.c1 s)
-control_effect s (commands.DesignateC1 set) = control_with s (working_without_run (with_c1 set s.working))
+control_effect s (commands.C1 n) =
+    control_with s (working_after_function s.working.c1 (attribute_of s.working.table n) (marker_of s.working.table n)
+    (fast_after_code n s.working.fast) s)
+control_effect s (commands.FlashMode k) =
+    control_with s (working_after_function s.working.c1 (Some (attrs.Flash (flash_of k s.working.fast)))
+    (Some (markers.Flash (flash_of k s.working.fast))) (fast_after k s.working.fast) s)
+control_effect s commands.StopConceal =
+    control_with s (working_after_function s.working.c1 (Some (attrs.Conceal false)) (Some (markers.Conceal false))
+    s.working.fast s)
+control_effect s (commands.DesignateC1 set) = control_with s (working_without_run (record s.working { c1 = set }))
 control_effect s (commands.Table k) = control_with s (record s.working { table = k })
 control_effect s (commands.Protect on) = control_with s (record s.working { protect = on })
 control_effect s (commands.Implicit on) = record s { implicit = on }
@@ -83,7 +85,7 @@ control_effect s (commands.AreaDelete first last) = record s { area = area_witho
 control_effect s (commands.Format rows wrap) =
     record s { working = working_without_pen (working_without_run (working_at 1 1 s.working)); rows = rows; wrap = wrap }
 control_effect s (commands.ControlDefaults set) = control_with s (working_by_default set s.working)
-control_effect s (commands.FullDefaults set) = record initial_control { working = with_c1 set initial_working }
+control_effect s (commands.FullDefaults set) = record initial_control { working = record initial_working { c1 = set } }
 control_effect s (commands.ServiceBreak row) = record s {
   working = working_at (min row s.rows) 1 (working_by_default c1sets.Parallel s.working);
   kept = Some (unwrap_or s.kept s.working);

@@ -5,14 +5,12 @@ use Rattle.cept_profile.specs.Motions.{area_within}
 use Rattle.cept_profile.specs.State.{Core}
 use Rattle.cept_profile.specs.Working.{ControlState}
 
--- what decides which rows are last: the number of rows of the format, and the area whose edges no sign crosses, where there
--- is such
+-- what decides which rows are last: the rows of the format, and the area whose edges no sign crosses, if there is one
 pub record Edges : Type 0 where
   pub rows : ℕ
   pub area : Option (ℕ × ℕ)
 
--- the edges of a format of so many rows with this area, under this revision of the rules: under the second no sign crosses
--- the edges of an area within the format
+-- the edges of a format with this area under this revision: under the second no sign crosses those of an area within it
 abbrev pub edges_under : ℕ → Option (ℕ × ℕ) → ℕ → Edges
 edges_under rows area revision = record { rows = rows; area = if revision == 2 then area_within rows area else None }
 

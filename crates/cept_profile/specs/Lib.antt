@@ -17,6 +17,7 @@ pub mod Writing
 pub mod Markers
 pub mod Serial
 pub mod Influence
+pub mod LastSaid
 pub mod Tiling
 pub mod RowsFromAbove
 pub mod PageParts

@@ -1,11 +1,10 @@
 -- Markers: what a control function leaves in its cell under the serial set (ETS 300 072 and T/CD 6-1, the serial
 -- supplementary control functions; what each code leaves, when the mosaic run begins and ends, and how far signs move
 -- on after a size, is this profile's own).
-use Rattle.std.specs.Prelude.{ℕ, ◌+◌, ◌-◌, ◌*◌, Bool, true, false, Option, Some, None, List, [], ◌∷◌, nat_lt, ◌==◌}
+use Rattle.std.specs.Prelude.{ℕ, ◌+◌, ◌-◌, ◌*◌, Bool, true, false, Option, Some, None, List, ◌∷◌, nat_lt, ◌==◌}
 use Rattle.std.specs.Prelude.{if◌then◌else◌}
 use Rattle.cept_codes.specs.declared.attribute.Flash.TheVariants as flashes
 use Rattle.cept_codes.specs.declared.attribute.Size.TheVariants as sizes
-use Rattle.cept_codes.specs.declared.cell.Cell.{Cell}
 use Rattle.cept_codes.specs.declared.cell.Marker.{Marker}
 use Rattle.cept_codes.specs.declared.cell.Marker.TheVariants as markers
 use Rattle.cept_codes.specs.declared.cell.What.TheVariants as whats
@@ -48,26 +47,14 @@ abbrev pub step_after : Marker → ℕ → ℕ
 step_after (markers.Size size) step = columns_of_size size
 step_after _ step = step
 
--- the cell that a marker makes, protected as protection says
-abbrev pub cell_of_marker : ControlState → Marker → Cell
-cell_of_marker s m = record { what = whats.Marker m; protected = s.working.protect }
-
--- a marker is left at the position
+-- a marker is left at the position, its cell protected as protection says
 abbrev pub strokes_of_marker : ControlState → Marker → List Stroke
 strokes_of_marker s m =
-    strokes.Put (record { row = s.working.row; column = s.working.column }) (cell_of_marker s m) ∷ on_strokes s 1
+    strokes.Put (record { row = s.working.row; column = s.working.column })
+    (record { what = whats.Marker m; protected = s.working.protect })
+    ∷ on_strokes s 1
 
 -- after it: the position moved on by one column, and the mosaic run and the step as the marker says
 abbrev pub working_after_marker : ControlState → Marker → Working
 working_after_marker s m =
     record (working_ahead s 1 s.working) { run = run_after m s.working.run; step = step_after m s.working.step }
-
--- the strokes of a marker, if there is one
-abbrev pub strokes_of_any_marker : ControlState → Option Marker → List Stroke
-strokes_of_any_marker s None = []
-strokes_of_any_marker s (Some m) = strokes_of_marker s m
-
--- the working state after a marker, if there is one
-abbrev pub working_after_any_marker : ControlState → Option Marker → Working
-working_after_any_marker s None = s.working
-working_after_any_marker s (Some m) = working_after_marker s m

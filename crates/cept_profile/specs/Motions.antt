@@ -50,8 +50,7 @@ strokes_of_scroll s way (Some area) = scroll_under s.revision way area ∷ []
 
 -- ---- motions
 
--- the row below row r: the last row of an area that scrolls is left for none; else from the last row it is the first
--- with wrap, and the last itself without
+-- the row below row r: r itself at the last of an area that scrolls; else from the last row 1 with wrap, and r without
 abbrev pub row_below : ControlState → ℕ → ℕ
 row_below s r =
     if is_last_of (scrolling_area s) r then r else
@@ -62,8 +61,7 @@ row_below s r =
 abbrev pub below_strokes : ControlState → ℕ → List Stroke
 below_strokes s r = if is_last_of (scrolling_area s) r then strokes_of_scroll s ways.Up (scrolling_area s) else []
 
--- the row above row r: the first row of an area that scrolls is left for none; else from the first row it is the last
--- with wrap, and the first itself without
+-- the row above row r: r itself at the first of an area that scrolls; else from row 1 the last with wrap, and 1 without
 abbrev pub row_above : ControlState → ℕ → ℕ
 row_above s r =
     if is_first_of (scrolling_area s) r then r else

@@ -2,7 +2,6 @@
 -- downloaded patterns; which there are, and what sets and unsets each, is this profile's own. An entry is what the last
 -- stroke says that says anything of it, else its value at the start.
 use Rattle.std.specs.Prelude.{ℕ, Option, Some, None, unwrap_or, List, [], ◌∷◌, ◌==◌, if◌then◌else◌}
-use Rattle.cept_codes.specs.declared.attribute.Attr.{Attr}
 use Rattle.cept_codes.specs.declared.attribute.Pen.{Pen}
 use Rattle.cept_codes.specs.declared.look.Paint.{Paint}
 use Rattle.cept_codes.specs.declared.look.Pattern.{Pattern}

@@ -1,24 +1,7 @@
 -- Pens: the attributes that go with each sign under the parallel set (T/CD 6-1, the parallel supplementary control
 -- functions; the table, what each code does, flash modes, and attributes of rows and of the screen are this profile's
 -- own), and what the same functions make of control under the serial set, where each leaves a marker.
-use Rattle.std.specs.Prelude.{
-  ℕ,
-  ◌+◌,
-  ◌-◌,
-  ◌*◌,
-  Bool,
-  true,
-  false,
-  ◌||◌,
-  Option,
-  Some,
-  None,
-  List,
-  [],
-  ◌∷◌,
-  nat_lt,
-  nat_le,
-}
+use Rattle.std.specs.Prelude.{ℕ, ◌+◌, ◌-◌, ◌*◌, Bool, true, false, ◌||◌, Option, Some, None, List, [], nat_lt, nat_le}
 use Rattle.std.specs.Prelude.{◌==◌, if◌then◌else◌}
 use Rattle.cept_codes.specs.declared.attribute.Attr.{Attr}
 use Rattle.cept_codes.specs.declared.attribute.Attr.TheVariants as attrs
@@ -27,13 +10,11 @@ use Rattle.cept_codes.specs.declared.attribute.Flash.TheVariants as flashes
 use Rattle.cept_codes.specs.declared.attribute.Pen.{Pen}
 use Rattle.cept_codes.specs.declared.attribute.Size.{Size}
 use Rattle.cept_codes.specs.declared.attribute.Size.TheVariants as sizes
-use Rattle.cept_codes.specs.declared.cell.Marker.TheVariants as markers
+use Rattle.cept_codes.specs.declared.cell.Marker.{Marker}
 use Rattle.cept_codes.specs.declared.command.C1Set.{C1Set}
 use Rattle.cept_codes.specs.declared.command.C1Set.TheVariants as c1sets
 use Rattle.cept_codes.specs.declared.stroke.Stroke.{Stroke}
-use Rattle.cept_codes.specs.declared.stroke.Stroke.TheVariants as strokes
-use Rattle.cept_profile.specs.Markers.{marker_of, strokes_of_any_marker, strokes_of_marker, working_after_any_marker}
-use Rattle.cept_profile.specs.Markers.{working_after_marker}
+use Rattle.cept_profile.specs.Markers.{strokes_of_marker, working_after_marker}
 use Rattle.cept_profile.specs.Working.{Working, ControlState}
 
 -- the attribute of a C1 code, counted from 8/0, with a colour table of eight entries
@@ -120,24 +101,9 @@ abbrev pub pen_with_any : Option Attr → Pen → Pen
 pen_with_any None p = p
 pen_with_any (Some attr) p = pen_with attr p
 
--- the C1 codes of flash, which end a fast one
-abbrev pub is_flash : ℕ → Bool
-is_flash n = n == 8 || n == 9
-
 -- the fast flash in force after a C1 code: the codes of flash end it, under either set
 abbrev pub fast_after_code : ℕ → ℕ → ℕ
-fast_after_code n fast = if is_flash n then 0 else fast
-
--- a C1 code: under the parallel set the pen takes its attribute, under the serial set its marker is left
-abbrev pub working_after_code : C1Set → ℕ → ControlState → Working
-working_after_code c1sets.Parallel n s =
-    record s.working {
-      pen = pen_with_any (attribute_of s.working.table n) s.working.pen;
-      fast =
-          fast_after_code n s.working.fast;
-    }
-working_after_code c1sets.Serial n s =
-    record (working_after_any_marker s (marker_of s.working.table n)) { fast = fast_after_code n s.working.fast }
+fast_after_code n fast = if n == 8 || n == 9 then 0 else fast
 
 -- the fast flash that a flash mode leaves in force, 0 for none: 2, 3 and 4 name one; 5 takes the next in the circle 1, 2,
 -- 3, of none the first, and 6 the one before, of none the last
@@ -161,45 +127,15 @@ flash_of mode fast =
     if mode == 1 then flashes.Reduced else
     fast_flash (fast_after mode fast)
 
--- a flash mode: under the parallel set the pen takes its flash, under the serial set its marker is left
-abbrev pub working_after_flash : C1Set → ℕ → ControlState → Working
-working_after_flash c1sets.Parallel mode s =
-    record s.working {
-      pen = pen_with (attrs.Flash (flash_of mode s.working.fast)) s.working.pen;
-      fast = fast_after mode s.working.fast;
-    }
-working_after_flash c1sets.Serial mode s =
-    record (working_after_marker s (markers.Flash (flash_of mode s.working.fast))) {
-      fast =
-          fast_after mode s.working.fast;
-    }
+-- a control function with an attribute and a marker: under the parallel set the pen takes the attribute, under the
+-- serial set the marker is left; after it this fast flash is in force
+abbrev pub working_after_function : C1Set → Option Attr → Option Marker → ℕ → ControlState → Working
+working_after_function c1sets.Parallel attr m fast s =
+    record s.working { pen = pen_with_any attr s.working.pen; fast = fast }
+working_after_function c1sets.Serial attr None fast s = record s.working { fast = fast }
+working_after_function c1sets.Serial attr (Some m) fast s = record (working_after_marker s m) { fast = fast }
 
--- concealing stops: under the parallel set the pen conceals no more, under the serial set a marker says so
-abbrev pub working_after_reveal : C1Set → ControlState → Working
-working_after_reveal c1sets.Parallel s = record s.working { pen = pen_with (attrs.Conceal false) s.working.pen }
-working_after_reveal c1sets.Serial s = working_after_marker s (markers.Conceal false)
-
--- an attribute of the screen, if there is one
-abbrev pub strokes_of_attribute : Option Attr → List Stroke
-strokes_of_attribute None = []
-strokes_of_attribute (Some attr) = strokes.ScreenAttr attr ∷ []
-
--- an attribute of a row, if there is one
-abbrev pub strokes_of_row_attribute : ℕ → Option Attr → List Stroke
-strokes_of_row_attribute r None = []
-strokes_of_row_attribute r (Some attr) = strokes.RowAttr r attr ∷ []
-
--- the strokes of a C1 code: under the serial set its marker
-abbrev pub strokes_of_code : C1Set → ℕ → ControlState → List Stroke
-strokes_of_code c1sets.Parallel n s = []
-strokes_of_code c1sets.Serial n s = strokes_of_any_marker s (marker_of s.working.table n)
-
--- of a flash mode
-abbrev pub strokes_of_flash : C1Set → ℕ → ControlState → List Stroke
-strokes_of_flash c1sets.Parallel mode s = []
-strokes_of_flash c1sets.Serial mode s = strokes_of_marker s (markers.Flash (flash_of mode s.working.fast))
-
--- of the end of concealing
-abbrev pub strokes_of_reveal : C1Set → ControlState → List Stroke
-strokes_of_reveal c1sets.Parallel s = []
-strokes_of_reveal c1sets.Serial s = strokes_of_marker s (markers.Conceal false)
+-- its strokes: under the serial set those of the marker
+abbrev pub strokes_of_function : C1Set → Option Marker → ControlState → List Stroke
+strokes_of_function c1sets.Serial (Some m) s = strokes_of_marker s m
+strokes_of_function _ _ s = []

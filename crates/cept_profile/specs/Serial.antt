@@ -169,8 +169,7 @@ lies_after d (Some e) = nat_lt d e
 abbrev pub is_sized_since : (ℕ → What) → ℕ → ℕ → Bool
 is_sized_since row d c = lies_after d (nearest_column (λ e. said size_said (row e)) c)
 
--- the sign that markers at this column hold: that of the nearest cell without a marker, written serially from a mosaic
--- set, with no size marker since
+-- the sign held here: that of the nearest cell without a marker, if a serial mosaic sign, with no size marker since
 unfoldable pub kept_sign : (ℕ → What) → ℕ → Option Glyph
 kept_sign row c = value_found (λ d. if is_sized_since row d c then None
     else mosaic_of (row d)) (nearest_column (λ d. not (is_marker (row d))) c)

@@ -1,5 +1,6 @@
 -- Strokes (own): the changes that each command makes to the page.
-use Rattle.std.specs.Prelude.{List, [], ◌∷◌, ◌++◌, reverse, if◌then◌else◌}
+use Rattle.std.specs.Prelude.{false, Some, option_to_list, List, map, [], ◌∷◌, ◌++◌, reverse, if◌then◌else◌}
+use Rattle.cept_codes.specs.declared.cell.Marker.TheVariants as markers
 use Rattle.cept_codes.specs.declared.command.Command.{Command}
 use Rattle.cept_codes.specs.declared.command.Command.TheVariants as commands
 use Rattle.cept_codes.specs.declared.command.Up.TheVariants as ways
@@ -7,20 +8,13 @@ use Rattle.cept_codes.specs.declared.look.Paint.TheVariants as paints
 use Rattle.cept_codes.specs.declared.stroke.Stroke.{Stroke}
 use Rattle.cept_codes.specs.declared.stroke.Stroke.TheVariants as strokes
 use Rattle.cept_profile.specs.Control.{ControlState, state_for_effect, control_back}
+use Rattle.cept_profile.specs.Markers.{marker_of}
 use Rattle.cept_profile.specs.Motions.{below_strokes, above_strokes, on_strokes, back_strokes}
 use Rattle.cept_profile.specs.Motions.{area_in_force, strokes_of_scroll}
-use Rattle.cept_profile.specs.Pens.{
-  strokes_of_code,
-  strokes_of_flash,
-  strokes_of_reveal,
-  strokes_of_attribute,
-  strokes_of_row_attribute,
-  attribute_of,
-}
+use Rattle.cept_profile.specs.Pens.{attribute_of, flash_of, strokes_of_function}
 use Rattle.cept_profile.specs.Writing.{strokes_of_read, strokes_of_repeat, graphic_result}
 
--- the strokes of a command that takes effect in this state. An attribute of the screen or of a row has its parallel
--- meaning, whatever the C1 set is
+-- the strokes of a command in this state. An attribute of screen or row has its parallel meaning under either C1 set
 abbrev pub strokes_when : ControlState → Command → List Stroke
 strokes_when s commands.Back = back_strokes s
 strokes_when s commands.Forward = on_strokes s 1
@@ -30,11 +24,14 @@ strokes_when s commands.Clear = strokes.Wipe ∷ []
 strokes_when s (commands.Graphic byte) = strokes_of_read s (graphic_result s byte).read
 strokes_when s (commands.Repeat n) = strokes_of_repeat n s s.working.last
 strokes_when s commands.Cancel = strokes.Erase s.working.row s.working.column ∷ []
-strokes_when s (commands.C1 n) = strokes_of_code s.working.c1 n s
-strokes_when s (commands.FlashMode k) = strokes_of_flash s.working.c1 k s
-strokes_when s commands.StopConceal = strokes_of_reveal s.working.c1 s
-strokes_when s (commands.FullScreen n) = strokes_of_attribute (attribute_of s.working.table n)
-strokes_when s (commands.FullRow n) = strokes_of_row_attribute s.working.row (attribute_of s.working.table n)
+strokes_when s (commands.C1 n) = strokes_of_function s.working.c1 (marker_of s.working.table n) s
+strokes_when s (commands.FlashMode k) =
+    strokes_of_function s.working.c1 (Some (markers.Flash (flash_of k s.working.fast))) s
+strokes_when s commands.StopConceal = strokes_of_function s.working.c1 (Some (markers.Conceal false)) s
+strokes_when s (commands.FullScreen n) =
+    map (λ attr. strokes.ScreenAttr attr) (option_to_list (attribute_of s.working.table n))
+strokes_when s (commands.FullRow n) =
+    map (λ attr. strokes.RowAttr s.working.row attr) (option_to_list (attribute_of s.working.table n))
 strokes_when s commands.ColourDefaults = strokes.ColourDefaults ∷ []
 strokes_when s (commands.Entry i colour) = strokes.Colour i (paints.Ink colour) ∷ []
 strokes_when s (commands.Dclut i entry) = strokes.Dclut i entry ∷ []

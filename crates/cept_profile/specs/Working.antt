@@ -74,10 +74,6 @@ working_at r c w = record w { row = r; column = c }
 abbrev pub working_with_sets : Sets → Working → Working
 working_with_sets sets w = record w { sets = sets }
 
--- the state under another C1 set
-abbrev pub with_c1 : C1Set → Working → Working
-with_c1 set w = record w { c1 = set }
-
 -- defaults: all but the position is as at the start, under this C1 set
 abbrev pub working_by_default : C1Set → Working → Working
 working_by_default set w = record initial_working { row = w.row; column = w.column; c1 = set }
@@ -89,7 +85,3 @@ working_without_run w = record w { run = false; step = 1 }
 -- no class of the pen is set, and no fast flash is in force
 abbrev pub working_without_pen : Working → Working
 working_without_pen w = record w { pen = unset_pen; fast = 0 }
-
--- no accent waits
-abbrev pub working_without_accent : Working → Working
-working_without_accent w = record w { accent = None }

@@ -34,8 +34,7 @@ abbrev pub columns_of_set : Option Size → ℕ
 columns_of_set None = 1
 columns_of_set (Some size) = columns_of_size size
 
--- how many columns a sign moves on: under the parallel set as many as the size of the pen takes, under the serial set
--- as the last size marker said
+-- how many columns a sign moves on: under the parallel set by the pen's size, under the serial by the last size marker
 abbrev pub columns_under : C1Set → Working → ℕ
 columns_under c1sets.Parallel w = columns_of_set w.pen.size
 columns_under c1sets.Serial w = w.step

@@ -5,6 +5,7 @@ mod carried_rows;
 mod codes_of_sets;
 mod control_settings;
 mod first_grid;
+mod last_said;
 mod looks_in_rows;
 mod motions;
 mod names_of_rows;
@@ -26,6 +27,7 @@ pub use control_settings::{
     closed_services_are_left_out, rows_are_those_of_the_last_format, settings_look_back,
 };
 pub use first_grid::{clearing_blanks_the_cells, the_first_grid};
+pub use last_said::attributes_look_back;
 pub use looks_in_rows::{looks_depend_on_cells_to_the_left, the_page_and_the_edges_are_seen};
 pub use motions::motions_go_round_the_places;
 pub use names_of_rows::{looks_show_the_parts, names_come_from_above_or_the_left, the_first_names};

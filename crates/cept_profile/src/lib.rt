@@ -6,10 +6,10 @@
 mod law;
 
 pub use law::{
-    accents_wait, attributes_go_with_carried_rows, cells_to_the_right_count_for_nothing,
-    clearing_blanks_the_cells, closed_services_are_left_out, codes_give_signs_or_accents,
-    copies_are_written_in_turn, each_command_is_shown, exactly_one_row_is_tiled,
-    exactly_one_table_is_tiled, looking_back_is_drawing, looks_are_valid,
+    accents_wait, attributes_go_with_carried_rows, attributes_look_back,
+    cells_to_the_right_count_for_nothing, clearing_blanks_the_cells, closed_services_are_left_out,
+    codes_give_signs_or_accents, copies_are_written_in_turn, each_command_is_shown,
+    exactly_one_row_is_tiled, exactly_one_table_is_tiled, looking_back_is_drawing, looks_are_valid,
     looks_come_from_above_or_the_left, looks_depend_on_cells_to_the_left, looks_show_the_parts,
     marked_places_in_order, motions_go_round_the_places, names_come_from_above_or_the_left,
     noted_strokes_leave_what_is_unwound_to, nothing_noted_unwinds_nothing,

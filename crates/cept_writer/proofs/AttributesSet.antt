@@ -1,6 +1,6 @@
 -- The commands of attributes: under the parallel set the pen takes them, and for a row or the screen each is a stroke.
 use Rattle.std.proofs.Common.{◌≡◌, ℕ, ◌+◌, ◌-◌, ◌*◌, ◌/◌, ◌%◌, ◌≤◌, ◌<◌, Bool, true, false, eqb, ltb}
-use Rattle.std.proofs.Common.{Option, None, Some, List, [], ◌∷◌, map, refl, ap, ◌∙◌, arith}
+use Rattle.std.proofs.Common.{Option, None, Some, option_to_list, List, [], ◌∷◌, map, refl, ap, ◌∙◌, arith}
 use Rattle.std.specs.List.{AllByRecursion}
 use Rattle.std.proofs.lemmas.Bool.Decides.{nat_tests}
 use Rattle.cept_codes.specs.declared.attribute.Attr.{Attr}
@@ -17,7 +17,6 @@ use Rattle.cept_codes.specs.declared.stroke.Stroke.TheVariants as strokes
 use Rattle.cept_codes.specs.Attribute.{IsPlainFlash}
 use Rattle.cept_profile.specs.Control.{ControlState, control_after, control_with, initial_sets}
 use Rattle.cept_profile.specs.Pens.{attribute_of, fast_after, fast_after_code, pen_with, pen_with_any}
-use Rattle.cept_profile.specs.Pens.{strokes_of_attribute, strokes_of_row_attribute}
 use Rattle.cept_profile.specs.Strokes.{strokes_of}
 use Rattle.cept_writer.specs.AttributeCommands.{attribute_commands, attributes_commands}
 use Rattle.cept_writer.specs.AttributeCommands.{pen_with_all}
@@ -150,11 +149,6 @@ abbrev pub HasCode : Attr → Type 0
 HasCode (attrs.Flash f) = IsPlainFlash f
 HasCode _ = Unit {0}
 
--- the stroke of an attribute, if there is one
-abbrev stroke_of : (Attr → Stroke) → Option Attr → List Stroke
-stroke_of made None = []
-stroke_of made (Some attr) = made attr ∷ []
-
 -- attributes are strokes, and but for the table control stays
 pub record Strikes (fixed : Fixed) (v : Hand) (made : List Stroke) (cs : List Command) : Type 0 where
   pub table : ℕ
@@ -163,12 +157,13 @@ pub record Strikes (fixed : Fixed) (v : Hand) (made : List Stroke) (cs : List Co
 module _ (fixed : Fixed) (code : ℕ → Command) (made : ℕ → Attr → Stroke)
     (keeps : (v : Hand) (n : ℕ) → control_after (control_at_rest fixed v) (code n) ≡ control_at_rest fixed v)
     (strikes : (v : Hand) (n : ℕ) → strokes_of (control_at_rest fixed v) (code n)
-    ≡ stroke_of (made v.row) (attribute_of v.table n)) where
+    ≡ map (made v.row) (option_to_list (attribute_of v.table n))) where
   struck : (v : Hand) (n : ℕ) (attr : Attr) → attribute_of v.table n ≡ Some attr
       → Strikes fixed v (made v.row attr ∷ []) (code n ∷ [])
   struck v n attr is = record {
     table = v.table;
-    draws = draws_one _ _ (code n) _ (keeps v n) (strikes v n ∙ ap (stroke_of (made v.row)) is);
+    draws = draws_one _ _ (code n) _ (keeps v n)
+        (strikes v n ∙ ap (λ (o : Option Attr). map (made v.row) (option_to_list o)) is);
   }
 
   struck_colour : (v : Hand) (t n : ℕ) (attr : Attr) → attribute_of t n ≡ Some attr
@@ -222,17 +217,11 @@ pub row_strikes : (fixed : Fixed) (v : Hand) (list : List Attr) → AllByRecursi
     → Strikes fixed v (map (λ attr. strokes.RowAttr v.row attr) list) (attributes_commands (λ n. commands.FullRow n) list)
 row_strikes fixed =
     attributes_strike fixed (λ n. commands.FullRow n) (λ r attr. strokes.RowAttr r attr) (λ v n. refl)
-    (λ v n. by_option v.row (attribute_of v.table n)) where
-      by_option : (r : ℕ) (o : Option Attr) → strokes_of_row_attribute r o ≡ stroke_of (λ attr. strokes.RowAttr r attr) o
-      by_option r None = refl
-      by_option r (Some attr) = refl
+    (λ v n. refl)
 
 pub screen_strikes : (fixed : Fixed) (v : Hand) (list : List Attr) → AllByRecursion HasCode list
     → Strikes fixed v (map (λ attr. strokes.ScreenAttr attr) list)
     (attributes_commands (λ n. commands.FullScreen n) list)
 screen_strikes fixed =
     attributes_strike fixed (λ n. commands.FullScreen n) (λ r attr. strokes.ScreenAttr attr) (λ v n. refl)
-    (λ v n. by_option (attribute_of v.table n)) where
-      by_option : (o : Option Attr) → strokes_of_attribute o ≡ stroke_of (λ attr. strokes.ScreenAttr attr) o
-      by_option None = refl
-      by_option (Some attr) = refl
+    (λ v n. refl)

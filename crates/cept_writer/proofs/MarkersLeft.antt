@@ -15,9 +15,9 @@ use Rattle.cept_codes.specs.declared.command.Command.TheVariants as commands
 use Rattle.cept_codes.specs.declared.stroke.Stroke.{Stroke}
 use Rattle.cept_codes.specs.declared.stroke.Stroke.TheVariants as strokes
 use Rattle.cept_profile.specs.Control.{ControlState, Working, control_with, initial_sets}
-use Rattle.cept_profile.specs.Markers.{marker_of, run_after, step_after, strokes_of_any_marker, strokes_of_marker}
-use Rattle.cept_profile.specs.Markers.{working_after_any_marker, working_after_marker}
-use Rattle.cept_profile.specs.Pens.{fast_after, fast_after_code, flash_of}
+use Rattle.cept_profile.specs.Markers.{marker_of, run_after, step_after, strokes_of_marker, working_after_marker}
+use Rattle.cept_profile.specs.Pens.{attribute_of, fast_after, fast_after_code, flash_of, strokes_of_function}
+use Rattle.cept_profile.specs.Pens.{working_after_function}
 use Rattle.cept_writer.specs.CellCommands.{marker_commands}
 use Rattle.cept_writer.proofs.Drawing.{Draws, draws_one, draws_silent}
 use Rattle.cept_writer.proofs.Resting.{Fixed, Hand, hand_ahead, control_in_cell, moves_on, stays}
@@ -96,12 +96,12 @@ module _ (fixed : Fixed) (protect : Bool) where
           fast = fast_after_code n v.fast;
         };
         draws = draws_one _ _ (commands.C1 n) _
-            (ap (λ (o : Option Marker). control_with s (record (working_after_any_marker s o)
-            { fast = fast_after_code n v.fast })) is
+            (ap (λ (o : Option Marker). control_with s
+            (working_after_function c1sets.Serial (attribute_of v.table n) o (fast_after_code n v.fast) s)) is
             ∙ ap (λ (w : Working). control_with s (record w
             { run = run_after m v.run; step = step_after m v.step; fast = fast_after_code n v.fast }))
             (moves_on fixed initial_sets None protect (hand_under_serial v) 1))
-            (ap (λ (o : Option Marker). strokes_of_any_marker s o) is
+            (ap (λ (o : Option Marker). strokes_of_function c1sets.Serial o s) is
             ∙ ap (λ (more : List Stroke). strokes.Put (record { row = v.row; column = v.column })
             (record { what = whats.Marker m; protected = protect }) ∷ more)
             (stays fixed initial_sets None protect (hand_under_serial v) 1));
@@ -163,7 +163,7 @@ module _ (fixed : Fixed) (protect : Bool) where
       record {
         hand = hand_ahead fixed (hand_under_serial v) 1;
         draws = draws_one _ _ commands.StopConceal _
-            (ap (λ (w : Working). control_with s (record w { run = v.run; step = v.step }))
+            (ap (λ (w : Working). control_with s (record w { run = v.run; step = v.step; fast = v.fast }))
             (moves_on fixed initial_sets None protect (hand_under_serial v) 1))
             (ap (λ (more : List Stroke). strokes.Put (record { row = v.row; column = v.column })
             (record { what = whats.Marker (markers.Conceal false); protected = protect }) ∷ more)
