@@ -1,12 +1,11 @@
 ghost use Rattle.std.specs.Prelude.{◌≡◌, ◌/◌, ◌<◌};
-ghost use Rattle.cept_charsets.specs.Rendition.{column_2, column_3, column_5, column_6, column_7};
-ghost use Rattle.cept_charsets.specs.Rendition.{supplementary_point};
+ghost use Rattle.cept_charsets.specs.Rendition.{supplementary_rows, point_in};
 ghost use Rattle.cept_charsets.specs.inside.Rendition.{IsPointIn};
 
 /// A code of set `S` in Unicode: U+FFFD where the set leaves it unassigned.
 #[tactic(auto, unfolding(crate::specs::Rendition::supplementary_rows))]
 pub fn supplementary(code: u8) -> char
-    ensures point { result ≡ supplementary_point code }
+    ensures point { result ≡ point_in supplementary_rows code }
     ensures small { result < 0x1_0000 }
 {
     match code >> 4 {
@@ -19,9 +18,10 @@ pub fn supplementary(code: u8) -> char
     }
 }
 
+#[tactic(auto, unfolding(crate::specs::Rendition::supplementary_rows))]
 fn column_2(code: u8) -> char
     requires { code / 16 ≡ 2 }
-    ensures { IsPointIn column_2 code result }
+    ensures { IsPointIn supplementary_rows code result }
 {
     match code {
         0x21 => '¡',
@@ -43,9 +43,10 @@ fn column_2(code: u8) -> char
     }
 }
 
+#[tactic(auto, unfolding(crate::specs::Rendition::supplementary_rows))]
 fn column_3(code: u8) -> char
     requires { code / 16 ≡ 3 }
-    ensures { IsPointIn column_3 code result }
+    ensures { IsPointIn supplementary_rows code result }
 {
     match code {
         0x30 => '°',
@@ -68,9 +69,10 @@ fn column_3(code: u8) -> char
     }
 }
 
+#[tactic(auto, unfolding(crate::specs::Rendition::supplementary_rows))]
 fn column_5(code: u8) -> char
     requires { code / 16 ≡ 5 }
-    ensures { IsPointIn column_5 code result }
+    ensures { IsPointIn supplementary_rows code result }
 {
     match code {
         0x50 => '―',
@@ -83,9 +85,10 @@ fn column_5(code: u8) -> char
     }
 }
 
+#[tactic(auto, unfolding(crate::specs::Rendition::supplementary_rows))]
 fn column_6(code: u8) -> char
     requires { code / 16 ≡ 6 }
-    ensures { IsPointIn column_6 code result }
+    ensures { IsPointIn supplementary_rows code result }
 {
     match code {
         0x60 => 'Ω',
@@ -107,9 +110,10 @@ fn column_6(code: u8) -> char
     }
 }
 
+#[tactic(auto, unfolding(crate::specs::Rendition::supplementary_rows))]
 fn column_7(code: u8) -> char
     requires { code / 16 ≡ 7 }
-    ensures { IsPointIn column_7 code result }
+    ensures { IsPointIn supplementary_rows code result }
 {
     match code {
         0x70 => 'ĸ',

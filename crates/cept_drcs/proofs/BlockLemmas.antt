@@ -5,7 +5,7 @@ use Rattle.std.proofs.lemmas.Bool.{cases_Bool, and_parts, ltb-true}
 use Rattle.std.proofs.lemmas.Bool.Decides.{nat_tests}
 use Rattle.std.proofs.lemmas.List.{length-append, length-replicate}
 use Rattle.cept_codes.specs.declared.command.Form.{Form}
-use Rattle.cept_drcs.specs.Block.{BlockPart, blank, adds, lines_asked, sign_line, sign_lines, has_pixels, six, whole, half_line}
+use Rattle.cept_drcs.specs.Block.{BlockPart, blank, adds, lines_asked, sign_line, sign_lines, has_pixels, six, whole}
 use Rattle.cept_drcs.specs.Block.{may_come, part_after_byte, part_after_bytes, last_line}
 
 -- how many half lines there are
@@ -23,6 +23,10 @@ asked_some room a h = grind (arith, nat_tests)
 
 length-sign_lines : (w room before a : ℕ) → length (sign_lines w room before a) ≡ min (lines_asked room a) room
 length-sign_lines w room before a = length-replicate {A = ℕ} (min (lines_asked room a) room) (sign_line w before a)
+
+-- a half line alone
+abbrev pub half_line : ℕ → BlockPart
+half_line l = record { lines = []; half = Some l }
 
 pixels_alone : (w room a : ℕ) → 0 < room → Measured room None (cond (w == 6) (whole (six a ∷ [])) (half_line (six a)))
 pixels_alone w room a h =

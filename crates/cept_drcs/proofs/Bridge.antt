@@ -8,10 +8,11 @@ use Rattle.std.proofs.lemmas.Nat.{row_fits}
 use Rattle.std.proofs.Math.Bool.{and_assoc}
 use Rattle.std.proofs.lemmas.List.{length-append, length-replicate, append_assoc, append-nil, drop_at}
 use Rattle.cept_codes.specs.declared.command.Form.{Form}
-use Rattle.cept_drcs.specs.Block.{BlockPart, blank, adds, may_come, part_after_byte, all_may_come, last_line, closed_lines}
+use Rattle.cept_drcs.specs.Block.{BlockPart, blank, adds, may_come, part_after_byte, all_may_come, last_line}
 use Rattle.cept_drcs.specs.Cut.{Cut, is_opener, plane_of, cut}
 use Rattle.cept_drcs.specs.Unit.{are_blocks, is_pattern}
-use Rattle.cept_drcs.specs.Loading.{Loading, fresh, takes, loading_after, loads, filled_lines, room, before, loading_with}
+use Rattle.cept_drcs.specs.Loading.{Loading, fresh, takes, loading_after, loads, closed_lines, filled_lines, room, before}
+use Rattle.cept_drcs.specs.Loading.{loading_with}
 use Rattle.cept_drcs.proofs.BlockLemmas.{halves}
 use Rattle.cept_drcs.proofs.BlockLemmas.{IsWithin, blank_within, draw_within}
 

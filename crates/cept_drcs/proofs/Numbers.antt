@@ -5,10 +5,10 @@ use Rattle.std.proofs.Common.{zero-mul, add-zero, pow-add, add-mul, one-mul, mul
 use Rattle.std.proofs.lemmas.Bool.{cases_Bool, and_parts, ltb-true, eqb-true}
 use Rattle.std.proofs.lemmas.List.{append_assoc}
 use Rattle.cept_codes.specs.declared.command.Form.{Form}
-use Rattle.cept_drcs.specs.Block.{BlockPart, blank, part_after_byte, part_after_bytes, closed_lines}
+use Rattle.cept_drcs.specs.Block.{BlockPart, blank, part_after_byte, part_after_bytes}
 use Rattle.cept_drcs.specs.Cut.{is_opener, plane_of, cut}
 use Rattle.cept_drcs.specs.Unit.{lines_from, blocks_number, pattern_of, pattern}
-use Rattle.cept_drcs.specs.Loading.{Loading, fresh, load, loads, all_lines, loading_after, Leads}
+use Rattle.cept_drcs.specs.Loading.{Loading, fresh, load, loads, closed_lines, all_lines, loading_after, Leads}
 use Rattle.cept_drcs.proofs.BlockLemmas.{IsWithin, blank_within, draw_within}
 use Rattle.cept_drcs.proofs.Bridge.{stand, above_next, length-above_next, loads_opener, loads_other, loads_first}
 use Rattle.cept_drcs.proofs.Bridge.{cut_opener, cut_other}

@@ -17,10 +17,10 @@ use Rattle.std.specs.Int.{bit_at}
 use Rattle.cept_codes.specs.declared.command.Form.{Form}
 use Rattle.cept_codes.specs.Command.{IsValidForm}
 use Rattle.cept_codes.specs.Look.{pixel, is_pattern_size}
-use Rattle.cept_drcs.specs.Block.{BlockPart, blank, part_after_byte, part_after_bytes, closed_lines, block_lines}
+use Rattle.cept_drcs.specs.Block.{BlockPart, blank, part_after_byte, part_after_bytes, block_lines}
 use Rattle.cept_drcs.specs.Cut.{Block, Cut, is_opener, plane_of, cut}
 use Rattle.cept_drcs.specs.Unit.{is_pattern, are_blocks, lines_from, blocks_number, pattern, plane_lines, drawn_pixel}
-use Rattle.cept_drcs.specs.Loading.{Loading, fresh, load, loads, all_lines}
+use Rattle.cept_drcs.specs.Loading.{Loading, fresh, load, loads, closed_lines, all_lines}
 use Rattle.cept_drcs.proofs.BlockLemmas.{IsWithin, blank_within, draw_within}
 use Rattle.cept_drcs.proofs.Bridge.{stand, above_next, length-above_next, next_plane, length-closed_lines, loads_is}
 use Rattle.cept_drcs.proofs.Bridge.{first, loads_opener, loads_other, loads_first, cut_opener, cut_other}

@@ -6,8 +6,8 @@ use Rattle.std.proofs.Common.{Option, None, Some, append-nil}
 use Rattle.std.proofs.lemmas.List.{map-append, append_assoc, take_more_set, length-set, length-take-le}
 use Rattle.std.proofs.lemmas.List.{get_or-set_other}
 use Rattle.std.specs.Option.{option_to_list}
-use Rattle.cept_drcs.proofs.BlockLemmas.{halves}
-use Rattle.cept_drcs.specs.Block.{BlockPart, whole, half_line, six, has_pixels, adds}
+use Rattle.cept_drcs.proofs.BlockLemmas.{halves, half_line}
+use Rattle.cept_drcs.specs.Block.{BlockPart, whole, six, has_pixels, adds}
 use Rattle.cept_drcs.specs.Strips.{strip_of, line_of_strips, in_pairs, left_over, pairs, AreKeptStrips}
 
 pub strip_is : (a : ℕ) → strip_of a ≡ six a

@@ -3,8 +3,8 @@ use Rattle.std.proofs.Common.{◌≡◌, ◌⊎◌, ℕ, zero, suc, ◌+◌, ◌
 use Rattle.std.proofs.Common.{[], ◌∷◌, ◌++◌}
 use Rattle.std.proofs.Common.{length, map, get_or, refl, sym, ap, ◌∙◌, inl, inr, arith, append-nil}
 use Rattle.std.specs.Option.{option_to_list}
-use Rattle.cept_drcs.specs.Block.{closed_lines}
 use Rattle.cept_drcs.specs.Unit.{lines_from}
+use Rattle.cept_drcs.specs.Loading.{closed_lines}
 use Rattle.cept_drcs.specs.Strips.{strip_of, line_of_strips, in_pairs, left_over, number_of, whole_lines, half_of}
 use Rattle.cept_drcs.proofs.Numbers.{line_more}
 use Rattle.cept_drcs.proofs.StripWords.{number_more, number_clear}

@@ -11,10 +11,11 @@ use Rattle.cept_codes.specs.declared.command.Form.{Form}
 use Rattle.cept_codes.specs.Command.{IsValidForm}
 use Rattle.cept_codes.specs.Look.{IsValidPattern, is_pattern_size}
 use Rattle.cept_drcs.specs.Bytes.{is_between}
-use Rattle.cept_drcs.specs.Block.{blank, adds, lines_asked, part_after_bytes, has_pixels, sign_line, sign_lines, six, whole, half_line}
+use Rattle.cept_drcs.specs.Block.{blank, adds, lines_asked, part_after_bytes, has_pixels, sign_line, sign_lines, six, whole}
 use Rattle.cept_drcs.specs.Cut.{Block, is_opener, plane_of}
 use Rattle.cept_drcs.specs.Unit.{is_pattern, lines_from, pattern_of, pattern}
 use Rattle.cept_drcs.specs.Loading.{Loading, fresh, loading_after, load, all_lines, above, room, before, loading_at_plane, loading_with, Leads}
+use Rattle.cept_drcs.proofs.BlockLemmas.{half_line}
 use Rattle.cept_drcs.proofs.Bridge.{next_plane, length-closed_lines}
 use Rattle.cept_drcs.proofs.Reading.{Ends, ended, leads_pattern, pattern_of_leads, no_pattern}
 use Rattle.cept_drcs.proofs.Numbers.{load_form, loading_after-form, led}

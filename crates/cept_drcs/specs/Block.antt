@@ -45,25 +45,21 @@ pub record BlockPart : Type 0 where
 abbrev pub blank : BlockPart
 blank = record { lines = []; half = None }
 
--- whole lines, and a half line alone
+-- whole lines alone
 abbrev pub whole : List ℕ → BlockPart
 whole ls = record { lines = ls; half = None }
-
-abbrev pub half_line : ℕ → BlockPart
-half_line l = record { lines = []; half = Some l }
 
 -- what a byte adds, where this many lines are left, this is the line before and this is the half line: a byte with
 -- pixels is a line of 6, begins one of 12 or completes it; a sign first completes a half line with pixels of 0
 unfoldable pub adds : ℕ → ℕ → ℕ → Option ℕ → ℕ → BlockPart
 adds w room before None a =
-    if has_pixels a then (if w == 6 then whole (six a ∷ []) else half_line (six a)) else
+    if has_pixels a then (if w == 6 then whole (six a ∷ []) else record { lines = []; half = Some (six a) }) else
     whole (sign_lines w room before a)
 adds w room before (Some l) a =
     if has_pixels a then whole ((l + 64 * six a) ∷ []) else
     whole (l ∷ sign_lines w (room - 1) l a)
 
--- a byte may come in a block that has this many lines left. A half line is none of its lines, so its last line may be
--- completed
+-- a byte may come where so many lines are left. A half line is none of the lines, so the last may be completed
 abbrev pub may_come : ℕ → ℕ → Bool
 may_come room a = nat_lt 0 room && (has_pixels a || is_sign a)
 
@@ -71,32 +67,22 @@ may_come room a = nat_lt 0 room && (has_pixels a || is_sign a)
 abbrev pub last_line : List ℕ → ℕ
 last_line ls = slice_index ls (length ls - 1)
 
--- a part of a block, and more after it
-abbrev pub part_with : BlockPart → BlockPart → BlockPart
-part_with d more = record { lines = d.lines ++ more.lines; half = more.half }
-
--- a block, with one byte more
+-- a part of a block, with one byte more
 abbrev pub part_after_byte : Form → BlockPart → ℕ → BlockPart
-part_after_byte f d a = part_with d (adds f.w (f.h - length d.lines) (last_line d.lines) d.half a)
+part_after_byte f d a =
+    let more = adds f.w (f.h - length d.lines) (last_line d.lines) d.half a in
+    record { lines = d.lines ++ more.lines; half = more.half }
 
 -- with these bytes more
 unfoldable pub part_after_bytes : Form → BlockPart → List ℕ → BlockPart
 part_after_bytes f d [] = d
 part_after_bytes f d (a ∷ u) = part_after_bytes f (part_after_byte f d a) u
 
--- each of them may come
+-- each of them may come: after blank, these bytes are a block
 unfoldable pub all_may_come : Form → BlockPart → List ℕ → Bool
 all_may_come f d [] = true
 all_may_come f d (a ∷ u) = may_come (f.h - length d.lines) a && all_may_come f (part_after_byte f d a) u
 
--- the lines at the end of a block: a half line is completed with pixels of 0
-abbrev pub closed_lines : List ℕ → Option ℕ → List ℕ
-closed_lines ls half = ls ++ option_to_list half
-
--- these bytes are a block
-abbrev pub is_block : Form → List ℕ → Bool
-is_block f u = all_may_come f blank u
-
--- its lines from the top. Those that are missing are 0
+-- the lines of a block from the top: at its end a half line is completed with pixels of 0. Those that are missing are 0
 abbrev pub block_lines : Form → List ℕ → List ℕ
-block_lines f u = let d = part_after_bytes f blank u in closed_lines d.lines d.half
+block_lines f u = let d = part_after_bytes f blank u in d.lines ++ option_to_list d.half

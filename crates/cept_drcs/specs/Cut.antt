@@ -20,12 +20,10 @@ pub record Cut : Type 0 where
   pub front : List ℕ
   pub blocks : List Block
 
--- cut bytes, and one byte before them
-abbrev pub put_before : ℕ → Cut → Cut
-put_before a c =
-    if is_opener a then record { front = []; blocks = record { plane = plane_of a; bytes = c.front } ∷ c.blocks } else
-    record { front = a ∷ c.front; blocks = c.blocks }
-
+-- bytes, cut
 unfoldable pub cut : List ℕ → Cut
 cut [] = record { front = []; blocks = [] }
-cut (a ∷ u) = put_before a (cut u)
+cut (a ∷ u) =
+    let c = cut u in
+    if is_opener a then record { front = []; blocks = record { plane = plane_of a; bytes = c.front } ∷ c.blocks } else
+    record { front = a ∷ c.front; blocks = c.blocks }

@@ -1,9 +1,10 @@
 -- A pattern as far as its bytes are read, one by one (this profile's own).
 use Rattle.std.specs.Prelude.{◌≡◌, ℕ, ◌+◌, ◌-◌, ◌*◌, Bool, true, false, ◌&&◌, List, [], ◌∷◌, ◌++◌, length, drop}
 use Rattle.std.specs.Prelude.{replicate, if◌then◌else◌, ◌==◌, nat_lt, Option, None}
+use Rattle.std.specs.Option.{option_to_list}
 use Rattle.cept_codes.specs.declared.command.Form.{Form}
 use Rattle.cept_codes.specs.Command.{IsValidForm}
-use Rattle.cept_drcs.specs.Block.{BlockPart, adds, may_come, last_line, closed_lines}
+use Rattle.cept_drcs.specs.Block.{BlockPart, adds, may_come, last_line}
 use Rattle.cept_drcs.specs.Cut.{is_opener, plane_of}
 
 -- the form, whether a plane is open and which, all whole lines of the planes up to it, and its half line
@@ -29,6 +30,10 @@ room l = (above l + l.form.h) - length l.lines
 -- the line before, 0 at the start of the plane
 abbrev pub before : Loading → ℕ
 before l = last_line (drop (above l) l.lines)
+
+-- lines, and a half line after them that is completed with pixels of 0
+abbrev pub closed_lines : List ℕ → Option ℕ → List ℕ
+closed_lines ls half = ls ++ option_to_list half
 
 -- all lines, where a half line is completed with pixels of 0
 abbrev pub all_lines : Loading → List ℕ

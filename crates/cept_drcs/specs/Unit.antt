@@ -5,14 +5,14 @@ use Rattle.std.specs.Prelude.{ℕ, zero, suc, ◌+◌, ◌*◌, ◌/◌, ◌%◌
 use Rattle.std.specs.Prelude.{◌∷◌, ◌==◌, nat_lt, nat_le}
 use Rattle.cept_codes.specs.declared.command.Form.{Form}
 use Rattle.cept_codes.specs.declared.look.Pattern.{Pattern}
-use Rattle.cept_drcs.specs.Block.{blank, part_after_bytes, is_block, block_lines}
+use Rattle.cept_drcs.specs.Block.{blank, part_after_bytes, all_may_come, block_lines}
 use Rattle.cept_drcs.specs.Cut.{Block, cut}
 
 -- blocks of planes that ascend strictly, from this one on, and are planes of the form
 unfoldable pub are_blocks : Form → ℕ → List Block → Bool
 are_blocks f p [] = true
 are_blocks f p (b ∷ bs) =
-    nat_le p b.plane && (nat_lt b.plane f.planes && (is_block f b.bytes && are_blocks f (b.plane + 1) bs))
+    nat_le p b.plane && (nat_lt b.plane f.planes && (all_may_come f blank b.bytes && are_blocks f (b.plane + 1) bs))
 
 -- the first of them is of plane 0
 abbrev pub begins_first_plane : List Block → Bool

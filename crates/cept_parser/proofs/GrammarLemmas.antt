@@ -1,5 +1,5 @@
 -- The laws of the grammar. The theory of items stands on these alone.
-use Rattle.std.proofs.Common.{◌≡◌, ℕ, ◌≤◌, true, false, cond, List, [], ◌∷◌, ◌++◌, length, Some, None}
+use Rattle.std.proofs.Common.{◌≡◌, ℕ, ◌≤◌, true, false, cond, List, [], ◌∷◌, ◌++◌, length, Option, Some, None}
 use Rattle.std.proofs.Common.{refl, ap, arith, ◌⊎◌, inl, inr}
 use Rattle.std.proofs.lemmas.Bool.{both_ways}
 use Rattle.cept_codes.specs.Command.{IsValidForm}
@@ -7,7 +7,7 @@ use Rattle.cept_parser.specs.declared.context.Context.{Context}
 use Rattle.cept_parser.specs.declared.context.Outcome.{Outcome}
 use Rattle.cept_parser.specs.declared.fit.Fit.{Fit}
 use Rattle.cept_parser.specs.declared.fit.Fit.TheVariants.{Misfit, Open, Whole, Longer}
-use Rattle.cept_parser.specs.Bytes.{is_plain, is_fit, is_whole, is_longer, Standing, unit_of}
+use Rattle.cept_parser.specs.Bytes.{is_plain, is_fit, is_whole, is_longer, Standing}
 use Rattle.cept_parser.specs.Grammar.{standing, unit, fits, grows}
 use Rattle.cept_parser.specs.Items.{is_refusal}
 use Rattle.cept_parser.specs.Beginning.{IsCommandUnit, IsContinued}
@@ -35,6 +35,10 @@ fits_one x c = (first_is x c).first
 record IsUnit (s : Standing) (o : Outcome) : Type 0 where
   whole : (s.fit ≡ Whole) ⊎ (s.fit ≡ Longer)
   says : s.outcome ≡ o
+
+-- what bytes that stand so wholly are, if they are whole
+abbrev unit_of : Standing → Option Outcome
+unit_of s = cond (is_whole s.fit) (Some s.outcome) None
 
 unit_is : (s : Standing) (o : Outcome) → unit_of s ≡ Some o → IsUnit s o
 unit_is s o e = go s.fit refl e

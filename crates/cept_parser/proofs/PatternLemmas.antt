@@ -19,7 +19,7 @@ use Rattle.cept_parser.specs.declared.fit.Fit.TheVariants.{Misfit, Open, Whole, 
 use Rattle.cept_parser.specs.Bytes.{is_longer, Standing}
 use Rattle.cept_parser.specs.Fit.{closes, Answer, answer}
 use Rattle.cept_parser.specs.inside.Fit.{word}
-use Rattle.cept_parser.specs.Runs.{has_six_bits, starts_pattern, pattern_fit, pattern_outcome, with_pattern}
+use Rattle.cept_parser.specs.Runs.{has_six_bits, starts_pattern, with_pattern}
 use Rattle.cept_parser.specs.Runs.{pattern_unit, table_entry, run_unit}
 use Rattle.cept_parser.specs.Units.{us_unit}
 use Rattle.cept_parser.specs.Grammar.{repetition, csi_unit, standing}
@@ -63,10 +63,10 @@ pub record IsPatternRun (x : Context) (u : List ℕ) : Type 0 where
   pub mode : x.mode ≡ DrcsRun code
   pub small : code < 0x7F
   pub some : 1 ≤ length u
-  pub stands : standing x u ≡ record { fit = pattern_fit x.form u; outcome = pattern_outcome x code u }
+  pub stands : standing x u ≡ with_pattern x code u
 
 run_is : (m : Mode) (x : Context) (a : ℕ) (u : List ℕ) (c : ℕ) → m ≡ DrcsRun c → starts_pattern x c a ≡ true
-    → run_unit m x a u ≡ with_pattern x c a u
+    → run_unit m x a u ≡ with_pattern x c (a ∷ u)
 unfolding pattern_unit
 run_is m x a u c e s = rw (e, s) refl
 

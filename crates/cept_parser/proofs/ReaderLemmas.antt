@@ -20,7 +20,7 @@ use Rattle.cept_parser.specs.Items.{Reading, reading_at, reading_with_items, sai
 use Rattle.cept_parser.specs.inside.Fit.{word}
 use Rattle.cept_parser.specs.declared.context.Mode.TheVariants.{DrcsRun}
 use Rattle.cept_parser.specs.Context.{with_mode}
-use Rattle.cept_parser.specs.Runs.{pattern_fit, pattern_outcome}
+use Rattle.cept_parser.specs.Runs.{with_pattern}
 use Rattle.cept_parser.specs.Waits.{in_pattern, IsBeside, IsWaiting, MayRead, HasLeft}
 use Rattle.cept_parser.specs.inside.Waits.{outcome_at_misfit, cut_item}
 use Rattle.cept_parser.proofs.OneByteMoreLemmas.{read_open, read_as_longer}
@@ -95,16 +95,16 @@ pub record IsLoaded (x : Context) (u : List ℕ) : Type 0 where
   pub mode : x.mode ≡ DrcsRun code
   pub small : code < 0x7F
   pub whole : is_pattern x.form u ≡ true
-  pub unit : unit x u ≡ Some (pattern_outcome x code u)
+  pub unit : unit x u ≡ Some (with_pattern x code u).outcome
 
-unit_is : (x : Context) (u : List ℕ) (o : Outcome) → standing x u ≡ record { fit = pattern_fit x.form u; outcome = o }
-    → is_pattern x.form u ≡ true → unit x u ≡ Some o
+unit_is : (x : Context) (u : List ℕ) (c : ℕ) → standing x u ≡ with_pattern x c u → is_pattern x.form u ≡ true
+    → unit x u ≡ Some (with_pattern x c u).outcome
 unfolding unit
-unit_is x u o e h = rw (e, h) (whole_either (unit_grows x.form u))
+unit_is x u c e h = rw (e, h) (whole_either (unit_grows x.form u) (with_pattern x c u).outcome)
   where
-    whole_either : (g : Bool) → cond (is_whole (cond g Longer Whole)) (Some o) None ≡ Some o
-    whole_either true = refl
-    whole_either false = refl
+    whole_either : (g : Bool) (o : Outcome) → cond (is_whole (cond g Longer Whole)) (Some o) None ≡ Some o
+    whole_either true o = refl
+    whole_either false o = refl
 
 pub loaded : (x : Context) (u : List ℕ) (b : Bool) (l : Loading) → IsBeside x u b l → b ≡ true → IsLoaded x u
 loaded x [] b l h t = absurd (both_ways b h.pattern t)
@@ -117,7 +117,7 @@ loaded x (a ∷ u) b l h t =
       mode = p.mode;
       small = p.small;
       whole = w;
-      unit = unit_is x (a ∷ u) _ p.stands w;
+      unit = unit_is x (a ∷ u) p.code p.stands w;
     }
 
 -- the item of such a pattern
@@ -164,14 +164,14 @@ pub full_fit : (x : Context) (u : List ℕ) (b : Bool) (l : Loading) → IsBesid
     → true ≡ not (unit_grows x.form u) → Whole ≡ word x u
 full_fit x u b l h t n =
     let k = loaded x u b l h t in
-    let e : pattern_fit x.form u ≡ Whole = rw (k.whole, not-true (unit_grows x.form u) (sym n)) refl in
+    let e : (with_pattern x k.code u).fit ≡ Whole = rw (k.whole, not-true (unit_grows x.form u) (sym n)) refl in
     sym (ap (λ (s : Standing). s.fit) (pattern_run x u (beside_loading x u b l h t)).stands ∙ e)
 
 pub grow_fit : (x : Context) (u : List ℕ) (b : Bool) (l : Loading) → IsBeside x u b l → b ≡ true
     → false ≡ not (unit_grows x.form u) → Longer ≡ word x u
 grow_fit x u b l h t n =
     let k = loaded x u b l h t in
-    let e : pattern_fit x.form u ≡ Longer = rw (k.whole, not-false (unit_grows x.form u) (sym n)) refl in
+    let e : (with_pattern x k.code u).fit ≡ Longer = rw (k.whole, not-false (unit_grows x.form u) (sym n)) refl in
     sym (ap (λ (s : Standing). s.fit) (pattern_run x u (beside_loading x u b l h t)).stands ∙ e)
 
 -- a byte that the loader doesn't take doesn't fit

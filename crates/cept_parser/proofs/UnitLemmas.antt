@@ -21,7 +21,7 @@ use Rattle.cept_parser.specs.Bytes.{complete}
 use Rattle.cept_parser.specs.Units.{drcs_parts, drcs_header, drcs_unit, colour_parts, colour_header, colour_start}
 use Rattle.cept_parser.specs.Units.{colour_unit, format_parts, format, service_break, service_unit, us_position, us_unit}
 use Rattle.cept_parser.specs.Runs.{has_six_bits, table_entry, run_unit, pattern_unit, with_pattern, starts_pattern}
-use Rattle.cept_parser.specs.Grammar.{csi_unit, after_escape, repetition, after_first}
+use Rattle.cept_parser.specs.Grammar.{csi_unit, after_escape, repetition, standing}
 use Rattle.cept_parser.specs.Escape.{escape}
 use Rattle.cept_parser.proofs.ChoiceLemmas.{each_test, each_table}
 use Rattle.cept_parser.proofs.TableLemmas.{Fits, Fails, IsCommand, Laws, longer, IsTable, begun_table}
@@ -164,7 +164,7 @@ pattern_breaks f a u c h p =
     unit_loads f a (u ++ c ∷ []) (first_planes f a p) ∙ loads_breaks (fresh f) (a ∷ u) c h
 
 pattern_laws : (x : Context) (d a : ℕ) (u : List ℕ) → is_pattern x.form (a ∷ []) ≡ true
-    → Laws (with_pattern x d a u) (longer (with_pattern x d a) u)
+    → Laws (with_pattern x d (a ∷ u)) (longer (λ v. with_pattern x d (a ∷ v)) u)
 pattern_laws x d a u s =
     let f = x.form in
     record {
@@ -194,7 +194,8 @@ by_table : (x : Context) (n : ℕ) (F : Table) → n ≤ 9 → IsTable n F → I
 by_table x n F l t =
     record { first = t.first; laws = t.laws; short = λ u f. let s = t.short u f in inl (omega arith) }
 
-pattern_first : (x : Context) (d a : ℕ) → is_pattern x.form (a ∷ []) ≡ true → IsFirst x (with_pattern x d a)
+pattern_first : (x : Context) (d a : ℕ) → is_pattern x.form (a ∷ []) ≡ true
+    → IsFirst x (λ u. with_pattern x d (a ∷ u))
 pattern_first x d a s =
     record {
       first = whole_fits _ (word_fits _ _ s);
@@ -219,7 +220,7 @@ run_first (DclutRun i) x a = complete_first x _
 run_first (DrcsRun d) x a =
     each_table (IsFirst x) (starts_pattern x d a) (λ s. pattern_first x d a (and_parts _ _ s).1) (λ _. complete_first x _)
 
-pub first_is : (x : Context) (a : ℕ) → IsFirst x (after_first x a)
+pub first_is : (x : Context) (a : ℕ) → IsFirst x (λ u. standing x (a ∷ u))
 unfolding repetition
 first_is x a =
     each_table (IsFirst x) (is_plain a) (λ _. run_first x.mode x a)

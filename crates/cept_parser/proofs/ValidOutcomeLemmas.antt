@@ -15,7 +15,7 @@ use Rattle.cept_parser.specs.declared.context.ColourKind.TheVariants.{ColourTabl
 use Rattle.cept_parser.specs.declared.context.Context.{Context}
 use Rattle.cept_parser.specs.declared.context.Outcome.{Outcome}
 use Rattle.cept_parser.specs.Context.{with_mode, start_context}
-use Rattle.cept_parser.specs.Bytes.{is_between, is_plain, is_digit, two_digits, is_row, is_column, contains}
+use Rattle.cept_parser.specs.Bytes.{is_between, is_plain, is_digit, two_digits, is_row, contains}
 use Rattle.cept_parser.specs.Bytes.{outcome, is_whole, Standing, Table, complete, one_plain, then_plain}
 use Rattle.cept_parser.specs.Controls.{one_byte}
 use Rattle.cept_parser.specs.Escape.{is_c1_final, escape_1, designation, designation_of_c1, escape_2, full_screen}
@@ -28,7 +28,7 @@ use Rattle.cept_parser.specs.Units.{colours_from, colour_start, colour_unit, for
 use Rattle.cept_parser.specs.Units.{service, service_unit, us_unit}
 use Rattle.cept_parser.specs.Runs.{misplacement, has_six_bits, bit, colour_part, colour, table_entry, dclut_value}
 use Rattle.cept_parser.specs.Runs.{run_unit, pattern_unit, starts_pattern}
-use Rattle.cept_parser.specs.Grammar.{repetition, csi_unit, after_escape, after_first, standing, unit, fits}
+use Rattle.cept_parser.specs.Grammar.{repetition, csi_unit, after_escape, standing, unit, fits}
 use Rattle.cept_parser.specs.Valid.{IsValidContext, IsValidMode, AreBytes}
 use Rattle.cept_parser.proofs.ChoiceLemmas.{each_test, each_table}
 use Rattle.cept_parser.proofs.GrammarLemmas.{fits_hundred as hundred, unit_told}
@@ -229,7 +229,7 @@ csi_valid (p ∷ f ∷ []) = csi_2_valid p f
 csi_valid (a ∷ b ∷ c ∷ u) = area_from_valid (a ∷ b ∷ c ∷ u)
 
 -- units after US
-on_screen : (r c : ℕ) → is_row r ≡ true → is_column c ≡ true → OnScreen (r - 0x40) (c - 0x40)
+on_screen : (r c : ℕ) → is_row r ≡ true → is_between 0x41 0x68 c ≡ true → OnScreen (r - 0x40) (c - 0x40)
 on_screen r c h g =
     record {
       from_top = grind (arith, nat_tests);
@@ -242,8 +242,8 @@ on_screen r c h g =
 position_valid : (x : Context) (r : ℕ) → IsValidContext x → Valid (us_position x r)
 unfolding us_position
 position_valid x r v =
-    one_valid x _ (λ c _. each_test IsValidOutcome (is_row r && is_column c) (λ h. let p =
-    and_parts (is_row r) (is_column c) h in
+    one_valid x _ (λ c _. each_test IsValidOutcome (is_row r && is_between 0x41 0x68 c) (λ h. let p =
+    and_parts (is_row r) (is_between 0x41 0x68 c) h in
     said_valid x Text _ v tt (on_screen r c p.0 p.1)) (λ _. said_valid x Text _ v tt tt))
 
 -- every choice of sizes is one of the six: 3/10, 3/11, 3/12 and 3/15 are narrow
@@ -419,7 +419,7 @@ escapes_valid x v (a ∷ u) w =
     each_test (λ (s : Standing). is_whole s.fit ≡ true → IsValidOutcome s.outcome) (eqb a 0x5B)
     (λ _. csi_unit_valid x v u) (λ _ _. said_valid x Text _ v tt (escape_valid (a ∷ u))) w
 
-first_valid : (x : Context) (a : ℕ) → IsValidContext x → a < 256 → Valid (after_first x a)
+first_valid : (x : Context) (a : ℕ) → IsValidContext x → a < 256 → Valid (λ u. standing x (a ∷ u))
 first_valid x a v b =
     each_table Valid (is_plain a) (λ p. run_valid x.mode x a v.mode v p) (λ p.
     each_table Valid (eqb a 0x12) (λ _. repeat_valid x v) (λ _.
@@ -444,7 +444,7 @@ LeadsToValid F = (u : List ℕ) → is_whole (F u).fit ≡ true → IsValidConte
 valid_leads : (F : Table) → Valid F → LeadsToValid F
 valid_leads F h u w = (h u w).next
 
-first_leads : (x : Context) (a : ℕ) → IsValidContext x → LeadsToValid (after_first x a)
+first_leads : (x : Context) (a : ℕ) → IsValidContext x → LeadsToValid (λ u. standing x (a ∷ u))
 first_leads x a v =
     each_table LeadsToValid (is_plain a) (λ p. valid_leads _ (run_valid x.mode x a v.mode v p)) (λ _.
     each_table LeadsToValid (eqb a 0x12) (λ _. valid_leads _ (repeat_valid x v)) (λ _.

@@ -12,7 +12,7 @@ use Rattle.cept_codes.specs.declared.look.Pattern.{Pattern}
 use Rattle.cept_codes.specs.Command.{IsValidForm}
 use Rattle.cept_codes.specs.Look.{pixel, is_pattern_size, is_plane_count, IsValidPattern}
 use Rattle.cept_drcs.specs.Block.{has_pixels, six, BlockPart, blank, whole, adds, may_come, part_after_byte, part_after_bytes}
-use Rattle.cept_drcs.specs.Block.{all_may_come, is_block, block_lines}
+use Rattle.cept_drcs.specs.Block.{all_may_come, block_lines}
 use Rattle.cept_drcs.specs.Cut.{Block, Cut, is_opener, plane_of, cut}
 use Rattle.cept_drcs.specs.Unit.{is_pattern, are_blocks, last_block, block_grows, pattern_grows, pattern, plane_lines}
 use Rattle.cept_drcs.proofs.Laws.{pixel_drawn, unit_valid}
@@ -145,7 +145,8 @@ block_draws : (t : Pattern) (p : ℕ) → IsTrue (is_pattern_size t.w t.h)
     → Draws (form_of t) [] (lines_bytes t p 0 t.h) (line_numbers t p 0 t.h)
 block_draws t p s = lines_draw t p t.h 0 [] s refl (omega arith)
 
-block_is : (t : Pattern) (p : ℕ) → IsTrue (is_pattern_size t.w t.h) → is_block (form_of t) (block_of t p).bytes ≡ true
+block_is : (t : Pattern) (p : ℕ) → IsTrue (is_pattern_size t.w t.h)
+    → all_may_come (form_of t) blank (block_of t p).bytes ≡ true
 unfolding all_may_come
 block_is t p s =
     ap (all_may_come (form_of t) blank) (sym (append-nil (lines_bytes t p 0 t.h))) ∙ (block_draws t p s).may []

@@ -1,11 +1,11 @@
 -- Classes of bytes, and the small forms of which the units are made (the classes are this profile's own). Codes are
 -- written column/row, as in the standards.
-use Rattle.std.specs.Prelude.{ℕ, zero, suc, ◌+◌, ◌-◌, ◌*◌, Bool, true, false, ◌&&◌, List, [], ◌∷◌, if◌then◌else◌, ◌==◌}
-use Rattle.std.specs.Prelude.{nat_le, Option, Some, None}
+use Rattle.std.specs.Prelude.{ℕ, zero, suc, ◌+◌, ◌-◌, ◌*◌, Bool, true, false, List, [], ◌∷◌, if◌then◌else◌, ◌==◌}
 use Rattle.std.specs.List.{list_any}
 use Rattle.cept_codes.specs.declared.item.Reason.TheVariants.{Interrupted}
 use Rattle.cept_codes.specs.declared.item.Said.{Said}
 use Rattle.cept_codes.specs.declared.item.Said.TheVariants.{Refused}
+pub use Rattle.cept_drcs.specs.Bytes.{is_between}
 use Rattle.cept_parser.specs.declared.context.Mode.{Mode}
 use Rattle.cept_parser.specs.declared.context.Mode.TheVariants.{Text}
 use Rattle.cept_parser.specs.declared.context.Context.{Context}
@@ -13,10 +13,6 @@ use Rattle.cept_parser.specs.declared.context.Outcome.{Outcome}
 use Rattle.cept_parser.specs.declared.fit.Fit.{Fit}
 use Rattle.cept_parser.specs.declared.fit.Fit.TheVariants.{Misfit, Open, Whole, Longer}
 use Rattle.cept_parser.specs.Context.{with_mode}
-
--- from the first number to the second
-abbrev pub is_between : ℕ → ℕ → ℕ → Bool
-is_between low high a = nat_le low a && nat_le a high
 
 -- a plain byte: 2/0 to 7/15
 abbrev pub is_plain : ℕ → Bool
@@ -37,10 +33,6 @@ two_digits a b = 10 * digit a + digit b
 -- a row: 4/1 to 5/8 for 1 to 24
 abbrev pub is_row : ℕ → Bool
 is_row r = is_between 0x41 0x58 r
-
--- a column: 4/1 to 6/8 for 1 to 40
-abbrev pub is_column : ℕ → Bool
-is_column c = is_between 0x41 0x68 c
 
 -- there are no bytes
 abbrev pub is_empty : List ℕ → Bool
@@ -73,15 +65,10 @@ abbrev pub is_longer : Fit → Bool
 is_longer Longer = true
 is_longer _ = false
 
--- how bytes stand to the grammar, in one word, and what whole ones say, with the context after them. Of others nobody
--- reads it
+-- how bytes stand to the grammar, and what whole ones say, with the context after them. Of others nobody reads it
 pub record Standing : Type 0 where
   pub fit : Fit
   pub outcome : Outcome
-
--- what bytes that stand so wholly are, if they are whole
-abbrev pub unit_of : Standing → Option Outcome
-unit_of s = if is_whole s.fit then Some s.outcome else None
 
 -- how each list of bytes stands
 abbrev pub Table : Type 0

@@ -1,6 +1,6 @@
 -- The grammar of the bytes: how bytes stand to it, in one tree, and what the other crates read off. What is no plain
 -- byte is a breaker: it begins a unit in mode Text, whatever the mode was.
-use Rattle.std.specs.Prelude.{ℕ, ◌-◌, Bool, List, [], ◌∷◌, if◌then◌else◌, ◌==◌, nat_le, Option}
+use Rattle.std.specs.Prelude.{ℕ, ◌-◌, Bool, List, [], ◌∷◌, if◌then◌else◌, ◌==◌, nat_le, Option, Some, None}
 use Rattle.cept_codes.specs.declared.command.Command.TheVariants as command
 use Rattle.cept_codes.specs.declared.item.Reason.TheVariants.{BadParameter}
 use Rattle.cept_codes.specs.declared.item.Said.TheVariants.{Command as Says, Refused}
@@ -8,7 +8,7 @@ use Rattle.cept_parser.specs.declared.context.Mode.TheVariants.{Text}
 use Rattle.cept_parser.specs.declared.context.Context.{Context}
 use Rattle.cept_parser.specs.declared.context.Outcome.{Outcome}
 use Rattle.cept_parser.specs.declared.fit.Fit.TheVariants.{Open}
-use Rattle.cept_parser.specs.Bytes.{is_plain, outcome, is_fit, is_longer, unit_of, Table, unsaid, complete}
+use Rattle.cept_parser.specs.Bytes.{is_plain, outcome, is_fit, is_whole, is_longer, Table, unsaid, complete}
 use Rattle.cept_parser.specs.Bytes.{one_plain, with_sequence}
 use Rattle.cept_parser.specs.Context.{start_context}
 use Rattle.cept_parser.specs.Controls.{one_byte}
@@ -40,7 +40,7 @@ after_escape x (a ∷ u) =
 
 -- what stands wholly after 1B, and what begins so
 unfoldable pub escape_unit : Context → List ℕ → Option Outcome
-escape_unit x u = unit_of (after_escape x u)
+escape_unit x u = let s = after_escape x u in if is_whole s.fit then Some s.outcome else None
 
 unfoldable pub begins_escape : List ℕ → Bool
 begins_escape u = is_fit (after_escape start_context u).fit
@@ -54,18 +54,14 @@ after_breaker x a u =
     if a == 0x9B then csi_unit x u else  -- CSI
     complete (outcome x Text (one_byte a)) u
 
--- after a first byte
-abbrev pub after_first : Context → ℕ → Table
-after_first x a u = if is_plain a then run_unit x.mode x a u else after_breaker x a u
-
 -- how bytes stand to the grammar
 abbrev pub standing : Context → Table
 standing x [] = unsaid x Open
-standing x (a ∷ u) = after_first x a u
+standing x (a ∷ u) = if is_plain a then run_unit x.mode x a u else after_breaker x a u
 
 -- what these bytes wholly are, with the context after them: a unit, a refused shape, or neither
 unfoldable pub unit : Context → List ℕ → Option Outcome
-unit x u = unit_of (standing x u)
+unit x u = let s = standing x u in if is_whole s.fit then Some s.outcome else None
 
 -- these bytes are the beginning of a unit or of a refused shape, or the whole of one
 unfoldable pub fits : Context → List ℕ → Bool

@@ -1,17 +1,15 @@
 -- Units that begin with a plain byte, by the mode: signs, colours, patterns, and bytes that are passed over (the modes
 -- are this profile's own).
-use Rattle.std.specs.Prelude.{ℕ, ◌+◌, ◌*◌, ◌/◌, ◌%◌, ◌^◌, Bool, ◌&&◌, List, if◌then◌else◌, nat_lt, nat_le, [], ◌∷◌}
+use Rattle.std.specs.Prelude.{ℕ, ◌+◌, ◌*◌, ◌/◌, ◌%◌, ◌^◌, Bool, ◌&&◌, if◌then◌else◌, nat_lt, nat_le, [], ◌∷◌}
 use Rattle.cept_codes.specs.declared.command.Command.TheVariants as command
 use Rattle.cept_codes.specs.declared.item.Reason.TheVariants.{BadParameter}
 use Rattle.cept_codes.specs.declared.item.Said.TheVariants.{Command as Says, Refused}
-use Rattle.cept_codes.specs.declared.command.Form.{Form}
 use Rattle.cept_codes.specs.declared.look.Rgb.{Rgb}
 use Rattle.cept_drcs.specs.Unit.{is_pattern, pattern, pattern_grows}
 use Rattle.cept_parser.specs.declared.context.Mode.{Mode}
 use Rattle.cept_parser.specs.declared.context.Mode.TheVariants.{Text, TableRun, DclutRun, DrcsRun, Skip}
 use Rattle.cept_parser.specs.declared.context.Context.{Context}
 use Rattle.cept_parser.specs.declared.context.Outcome.{Outcome}
-use Rattle.cept_parser.specs.declared.fit.Fit.{Fit}
 use Rattle.cept_parser.specs.declared.fit.Fit.TheVariants.{Misfit, Whole, Longer}
 use Rattle.cept_parser.specs.Bytes.{outcome, Table, complete, one_plain}
 
@@ -53,22 +51,17 @@ dclut_value x i a =
 abbrev pub starts_pattern : Context → ℕ → ℕ → Bool
 starts_pattern x c a = nat_lt c 0x7F && is_pattern x.form (a ∷ [])
 
--- a pattern for this code, of these bytes
-abbrev pub pattern_outcome : Context → ℕ → List ℕ → Outcome
-pattern_outcome x c u = outcome x (DrcsRun (c + 1)) (Says (command.DrcsPattern c (pattern x.form u)))
-
--- a pattern: each beginning of it is one itself
-abbrev pub pattern_fit : Form → List ℕ → Fit
-pattern_fit f u = if is_pattern f u then (if pattern_grows f u then Longer else Whole) else Misfit
-
--- what such a pattern says, after its first byte
-abbrev pub with_pattern : Context → ℕ → ℕ → Table
-with_pattern x c a u = record { fit = pattern_fit x.form (a ∷ u); outcome = pattern_outcome x c (a ∷ u) }
+-- a pattern for this code: each beginning of it is one itself
+abbrev pub with_pattern : Context → ℕ → Table
+with_pattern x c u = record {
+  fit = if is_pattern x.form u then (if pattern_grows x.form u then Longer else Whole) else Misfit;
+  outcome = outcome x (DrcsRun (c + 1)) (Says (command.DrcsPattern c (pattern x.form u)));
+}
 
 -- patterns for a code
 unfoldable pub pattern_unit : Context → ℕ → ℕ → Table
 pattern_unit x c a u =
-    if starts_pattern x c a then with_pattern x c a u else
+    if starts_pattern x c a then with_pattern x c (a ∷ u) else
     complete (misplacement x) u
 
 -- the unit of a mode that begins with this plain byte

@@ -13,13 +13,13 @@ use Rattle.cept_parser.specs.declared.context.ColourKind.TheVariants.{ColourTabl
 use Rattle.cept_parser.specs.declared.context.Context.{Context}
 use Rattle.cept_parser.specs.declared.context.Outcome.{Outcome}
 use Rattle.cept_parser.specs.Context.{start_context}
-use Rattle.cept_parser.specs.Bytes.{is_between, is_digit, two_digits, is_row, is_column, contains}
+use Rattle.cept_parser.specs.Bytes.{is_between, is_digit, two_digits, is_row, contains}
 use Rattle.cept_parser.specs.Bytes.{outcome, is_longer, Table, complete, then_plain, one_plain, with_options}
 
--- 1F r c, r 4/0 to 7/15: a position
+-- 1F r c, r 4/0 to 7/15: a position, c 4/1 to 6/8 for column 1 to 40
 unfoldable pub us_position : Context → ℕ → Table
 us_position x r = one_plain x (λ c.
-    if is_row r && is_column c then outcome x Text (Says (command.Position (r - 0x40) (c - 0x40))) else
+    if is_row r && is_between 0x41 0x68 c then outcome x Text (Says (command.Position (r - 0x40) (c - 0x40))) else
     outcome x Text (Refused BadParameter))
 
 -- the optional parts of 1F 23 20: deletion, the form of one byte, size, planes
@@ -27,8 +27,7 @@ abbrev pub drcs_parts : List (List ℕ)
 drcs_parts =
     (0x20 ∷ 0x28 ∷ []) ∷ (0x40 ∷ []) ∷ (0x36 ∷ 0x37 ∷ 0x3A ∷ 0x3B ∷ 0x3C ∷ 0x3F ∷ []) ∷ (0x41 ∷ 0x42 ∷ 0x44 ∷ []) ∷ []
 
--- the width of the form that they tell. Sizes: 3/6 12x12, 3/7 12x10, 3/10 6x12, 3/11 6x10, 3/12 6x5, 3/15 6x6, else
--- 12x10
+-- the width of their form. Sizes: 3/6 12x12, 3/7 12x10, 3/10 6x12, 3/11 6x10, 3/12 6x5, 3/15 6x6, else 12x10
 unfoldable pub drcs_width : List ℕ → ℕ
 drcs_width u =
     if contains u 0x3A || (contains u 0x3B || (contains u 0x3C || contains u 0x3F)) then 6 else
