@@ -1,6 +1,6 @@
 -- Worked cases of rows that are counted, by computing: those that are renewed, and those that may look otherwise after an
 -- undo.
-use Rattle.std.proofs.Common.{◌≡◌, ℕ, ◌==◌, ◌&&◌, Bool, true, false, List, [], ◌∷◌, Some, None, map, refl}
+use Rattle.std.proofs.Common.{◌≡◌, ◌==◌, ◌&&◌, true, false, List, [], ◌∷◌, Some, None, map, refl}
 use Rattle.std.specs.Prelude.{if◌then◌else◌}
 use Rattle.cept_codes.specs.declared.look.Look.{Look}
 use Rattle.cept_codes.specs.Look.{blank_look}
@@ -9,8 +9,9 @@ use Rattle.cept_delta.specs.Noted.{notes_row, notes_screen}
 use Rattle.cept_profile.specs.Edges.{Edges}
 use Rattle.cept_profile.specs.MovedRows.{row_before}
 use Rattle.cept_profile.specs.OldValues.{no_old_values}
+use Rattle.cept_profile.specs.RowsFromAbove.{is_covered_otherwise}
 use Rattle.cept_redraw.specs.Renewed.{is_renewed_from, look_otherwise, rows_renewed}
-use Rattle.cept_redraw.specs.Restored.{is_unwound}
+use Rattle.cept_redraw.specs.Restored.{is_unwound, rows_unwound}
 
 -- a row of blank looks, and one that is lined in its last column
 abbrev blank_row : List Look
@@ -50,3 +51,21 @@ whole = record { rows = 24; area = None }
 pub nothing_noted : map (is_unwound no_old_values whole whole) (1 ∷ 12 ∷ 24 ∷ []) ≡ false ∷ false ∷ false ∷ []
 unfolding is_unwound notes_row notes_screen table row_of list_by_index
 nothing_noted = refl
+
+-- and over looks and edges that stay none is resolved
+pub none_unwound : rows_unwound no_old_values whole whole blank_grid blank_grid ≡ 0
+unfolding rows_unwound is_unwound is_covered_otherwise notes_row notes_screen table row_of list_by_index
+none_unwound = refl
+
+-- what covers a row counts, and the last row does
+abbrev high_grid : List (List Look)
+high_grid = table (λ r c. if r == 23 && c == 40 then record blank_look { h = 2 } else blank_look)
+
+pub covered_row_unwound : rows_unwound no_old_values whole whole blank_grid high_grid ≡ 1
+unfolding rows_unwound is_unwound is_covered_otherwise notes_row notes_screen table row_of list_by_index
+covered_row_unwound = refl
+
+-- where the edges become others, the rows that are last in just one of the two states
+pub last_rows_unwound : rows_unwound no_old_values whole (record { rows = 20; area = None }) blank_grid blank_grid ≡ 4
+unfolding rows_unwound is_unwound is_covered_otherwise notes_row notes_screen table row_of list_by_index
+last_rows_unwound = refl

@@ -1,4 +1,4 @@
-ghost use Rattle.std.specs.Prelude.{◌≡◌, ◌≢◌, ◌≤◌, ◌<◌, ◌-◌, ◌↔◌, ℕ, true, false, Some, length};
+ghost use Rattle.std.specs.Prelude.{◌≡◌, ◌≢◌, ◌≤◌, ◌<◌, ◌+◌, ◌-◌, ◌↔◌, ℕ, true, false, Some, length};
 ghost use Rattle.cept_codes.specs.Look.{blank_look};
 ghost use Rattle.cept_codes.specs.Place.{OnScreen, number};
 ghost use Rattle.cept_profile.specs.Look.{looks_of, part_of};
@@ -95,6 +95,9 @@ impl KeptNames {
             → AreNamed self.old (core_on k page.now) → AreNamed self.new (core_on k page.now) }
         ensures known { is_known self.new row ≡ true }
         ensures above { (r : ℕ) → 1 ≤ r → r < row → is_known self.new r ≡ is_known self.old r }
+        ensures next { is_known self.new (row + 1) ≡ true → is_known self.old (row + 1) ≡ true }
+        ensures below { (r : ℕ) → row + 1 < r → is_known self.new r ≡ is_known self.old r }
+        ensures others { (r : ℕ) → r ≢ row → row_named self.new r ≡ row_named self.old r }
     {
         let at = row.index();
         let names = name_row(page, row, self.above(row), looks);

@@ -1,7 +1,7 @@
 //! A picture redrawn: strokes are drawn on its page, and the rows resolved that they alter or cover otherwise, and no
 //! others. The cases stand at the head of the crate.
 
-ghost use Rattle.std.specs.Prelude.{◌≡◌, ◌≢◌, ◌≤◌, ◌+◌, ◌==◌, ℕ, false, ◌∷◌, [], IfSome, if◌then◌else◌};
+ghost use Rattle.std.specs.Prelude.{◌≡◌, ◌≢◌, ◌≤◌, ◌+◌, ◌==◌, ℕ, true, false, ◌∷◌, [], IfSome, if◌then◌else◌};
 ghost use Rattle.std.specs.Prelude.{option_map};
 ghost use Rattle.std.specs.List.{AllByRecursion};
 ghost use Rattle.cept_codes.specs.declared.cell.Cell.{Cell};
@@ -17,14 +17,14 @@ ghost use Rattle.cept_profile.specs.Valid.{IsValidPage};
 ghost use Rattle.cept_page.specs.Behind.{page_behind};
 ghost use Rattle.cept_page.specs.Parts.{pens_of};
 ghost use Rattle.cept_page.specs.MarkedRows.{StandsAlone};
-ghost use Rattle.cept_redraw.specs.inside.Due.{at_rest, followed, is_altered, rows_due};
+ghost use Rattle.cept_redraw.specs.inside.Due.{at_rest, followed, is_altered};
 ghost use Rattle.cept_redraw.specs.Kept.{core_on};
 ghost use Rattle.cept_redraw.specs.inside.Kept.{OthersStay, look_alone, is_other_look};
 ghost use Rattle.cept_redraw.specs.Marks.{no_marks};
-ghost use Rattle.cept_redraw.specs.inside.Named.{AreAllKnown, AreJustRemembered, IsStill, IsUnmarkedBelow};
+ghost use Rattle.cept_redraw.specs.inside.Named.{AreAllKnown, AreJustRemembered, IsUnmarkedBelow};
 ghost use Rattle.cept_redraw.specs.Picture.{AreDrawable, AreTicksOf, IsKeptOn, IsNotedAlong, IsRedrawn};
 ghost use Rattle.cept_redraw.specs.Picture.{IsRedrawnAlong, MayBeRedrawn};
-ghost use Rattle.cept_redraw.specs.inside.Picture.{IsRefreshedOn, MayBeRefreshedDown};
+ghost use Rattle.cept_redraw.specs.inside.Picture.{AreRowsRedrawn, IsRefreshedOn, MayBeRefreshedDown};
 ghost use Rattle.cept_redraw.specs.inside.Picture.{just_row};
 ghost use Rattle.cept_redraw.specs.Resolved.{one_else};
 
@@ -131,8 +131,13 @@ impl Picture {
     )
         requires none { marks.old ≡ no_marks }
         requires may { MayBeRedrawn strokes.now edges.now edges.now self.old }
-        ensures { IsRedrawnAlong strokes.now edges.now edges.now self.old self.new marks.new steps.old
+        ensures done { IsRedrawnAlong strokes.now edges.now edges.now self.old self.new marks.new steps.old
             steps.new (N.noted noter.old) (N.noted noter.new) }
+
+        // Where one of them defines nothing, and where all define something.
+        ensures rows { one_else strokes.now ≡ true → AreRowsRedrawn strokes.now edges.now edges.now self.old
+            self.new marks.new steps.old steps.new }
+        ensures known { one_else strokes.now ≡ false → AreAllKnown self.new.names }
     {
         if one_else(strokes) {
             self.redraw_rows(strokes, edges, edges, marks, noter, steps);
@@ -159,12 +164,8 @@ impl Picture {
         ensures redrawn { IsRedrawn strokes.now after.now self.old self.new marks.new }
         ensures noted { IsNotedAlong strokes.now (N.noted noter.old) self.old.page (N.noted noter.new)
             self.new.page }
-        ensures cost { steps.new ≡ steps.old + rows_due (list_by_index 1 24
-            (is_altered strokes.now (pens_of self.old.page) before.now (pens_of self.new.page) after.now))
-            (list_by_index 1 24 (followed strokes.now)) self.old.looks self.new.looks }
-        ensures remembered { AreJustRemembered self.old.names self.new.names (λ r. IsStill (list_by_index 1 24
-            (is_altered strokes.now (pens_of self.old.page) before.now (pens_of self.new.page) after.now))
-            (list_by_index 1 24 (followed strokes.now)) marks.new r) }
+        ensures rows { AreRowsRedrawn strokes.now before.now after.now self.old self.new marks.new steps.old
+            steps.new }
     {
         let rows = follow_rows(strokes);
         let altered = draw_altering(strokes, &rows, before, &mut self.page, after, noter);

@@ -15,3 +15,5 @@ mod TapedRows
 mod Unchanged
 mod UnwoundStates
 mod ValidGrids
+mod WorkedCounts
+mod WorkedPaints

@@ -1,4 +1,5 @@
 -- Rows go down by one at most under a command: its strokes move rows up, or one stroke alone moves them.
+use Rattle.std.proofs.Common.{option_to_list, map}
 use Rattle.std.proofs.Common.{◌≡◌, ℕ, ◌+◌, ◌-◌, ◌≤◌, ◌==◌, ◌||◌, ◌&&◌, cond, Bool, true, false, List, [], ◌∷◌, ◌++◌}
 use Rattle.std.proofs.Common.{Option, Some, None, inl, inr, zero, suc, refl, sym, ap, ◌∙◌, arith}
 use Rattle.std.specs.List.{list_any}
@@ -19,12 +20,11 @@ use Rattle.cept_codes.specs.declared.glyph.Read.TheVariants as reads
 use Rattle.cept_codes.specs.declared.stroke.Stroke.{Stroke}
 use Rattle.cept_codes.specs.declared.stroke.Stroke.TheVariants as strokes
 use Rattle.cept_profile.specs.Control.{ControlState, state_for_effect}
-use Rattle.cept_profile.specs.Markers.{marker_of, strokes_of_any_marker, strokes_of_marker}
+use Rattle.cept_profile.specs.Markers.{marker_of, strokes_of_marker}
 use Rattle.cept_profile.specs.Motions.{above_strokes, area_in_force, back_strokes, below_strokes, on_strokes, strokes_of_scroll}
 use Rattle.cept_profile.specs.Motions.{is_first_of, is_last_of, scrolling_area}
 use Rattle.cept_profile.specs.MovedRows.{MovedRows, moved_rows, row_before, row_before_move, row_within}
-use Rattle.cept_profile.specs.Pens.{attribute_of, flash_of, strokes_of_attribute, strokes_of_code, strokes_of_flash, strokes_of_reveal}
-use Rattle.cept_profile.specs.Pens.{strokes_of_row_attribute}
+use Rattle.cept_profile.specs.Pens.{attribute_of, flash_of, strokes_of_function}
 use Rattle.cept_profile.specs.Strokes.{strokes_of, strokes_when}
 use Rattle.cept_profile.specs.Writing.{control_after_copies, graphic_result, sign_with_accent, strokes_of_copies, strokes_of_read}
 use Rattle.cept_profile.specs.Writing.{strokes_of_repeat, strokes_of_sign}
@@ -144,27 +144,16 @@ up-repeat n s (Some g) = up-copies n s g
 up-marker : (s : ControlState) (m : Marker) → GoesUp (strokes_of_marker s m)
 up-marker s m = up-on s 1
 
-up-any_marker : (s : ControlState) (m : Option Marker) → GoesUp (strokes_of_any_marker s m)
-up-any_marker s None = refl
-up-any_marker s (Some m) = up-marker s m
+up-function : (c1 : C1Set) (m : Option Marker) (s : ControlState) → GoesUp (strokes_of_function c1 m s)
+up-function c1sets.Parallel m s = refl
+up-function c1sets.Serial None s = refl
+up-function c1sets.Serial (Some m) s = up-marker s m
 
-up-code : (c1 : C1Set) (n : ℕ) (s : ControlState) → GoesUp (strokes_of_code c1 n s)
-up-code c1sets.Parallel n s = refl
-up-code c1sets.Serial n s = up-any_marker s (marker_of s.working.table n)
-
-up-flash : (c1 : C1Set) (k : ℕ) (s : ControlState) → GoesUp (strokes_of_flash c1 k s)
-up-flash c1sets.Parallel k s = refl
-up-flash c1sets.Serial k s = up-marker s (markers.Flash (flash_of k s.working.fast))
-
-up-reveal : (c1 : C1Set) (s : ControlState) → GoesUp (strokes_of_reveal c1 s)
-up-reveal c1sets.Parallel s = refl
-up-reveal c1sets.Serial s = up-marker s (markers.Conceal false)
-
-up-screen : (attr : Option Attr) → GoesUp (strokes_of_attribute attr)
+up-screen : (attr : Option Attr) → GoesUp (map (λ attr. strokes.ScreenAttr attr) (option_to_list attr))
 up-screen None = refl
 up-screen (Some attr) = refl
 
-up-row : (r : ℕ) (attr : Option Attr) → GoesUp (strokes_of_row_attribute r attr)
+up-row : (r : ℕ) (attr : Option Attr) → GoesUp (map (λ attr. strokes.RowAttr r attr) (option_to_list attr))
 up-row r None = refl
 up-row r (Some attr) = refl
 
@@ -222,9 +211,10 @@ low s commands.Clear = low-up _ refl
 low s (commands.Graphic byte) = low-up _ (up-read s (graphic_result s byte).read)
 low s (commands.Repeat n) = low-up _ (up-repeat n s s.working.last)
 low s commands.Cancel = low-up _ refl
-low s (commands.C1 n) = low-up _ (up-code s.working.c1 n s)
-low s (commands.FlashMode k) = low-up _ (up-flash s.working.c1 k s)
-low s commands.StopConceal = low-up _ (up-reveal s.working.c1 s)
+low s (commands.C1 n) = low-up _ (up-function s.working.c1 (marker_of s.working.table n) s)
+low s (commands.FlashMode k) =
+    low-up _ (up-function s.working.c1 (Some (markers.Flash (flash_of k s.working.fast))) s)
+low s commands.StopConceal = low-up _ (up-function s.working.c1 (Some (markers.Conceal false)) s)
 low s (commands.FullScreen n) = low-up _ (up-screen (attribute_of s.working.table n))
 low s (commands.FullRow n) = low-up _ (up-row s.working.row (attribute_of s.working.table n))
 low s commands.ColourDefaults = low-up _ refl

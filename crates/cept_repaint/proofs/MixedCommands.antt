@@ -1,5 +1,6 @@
 -- Commands that define something and do something else besides: full defaults alone, which wipe all rows. So every command
 -- may resolve the rows in its reach and no others.
+use Rattle.std.proofs.Common.{option_to_list, map}
 use Rattle.std.proofs.Common.{◌≡◌, ℕ, ◌+◌, ◌==◌, ◌||◌, ◌&&◌, not, cond, Bool, true, false, List, [], ◌∷◌, ◌++◌}
 use Rattle.std.proofs.Common.{Option, Some, None, ◌⊎◌, inl, inr, zero, suc, refl, sym, ap, ◌∙◌, arith}
 use Rattle.std.proofs.Math.Bool.{or-false}
@@ -20,12 +21,11 @@ use Rattle.cept_codes.specs.declared.stroke.Stroke.{Stroke}
 use Rattle.cept_codes.specs.declared.stroke.Stroke.TheVariants as strokes
 use Rattle.cept_profile.specs.Control.{ControlState, control_after, control_effect, state_for_effect}
 use Rattle.cept_profile.specs.Edges.{Edges, edges_of}
-use Rattle.cept_profile.specs.Markers.{marker_of, strokes_of_any_marker, strokes_of_marker}
+use Rattle.cept_profile.specs.Markers.{marker_of, strokes_of_marker}
 use Rattle.cept_profile.specs.Motions.{above_strokes, area_in_force, back_strokes, below_strokes, on_strokes, strokes_of_scroll}
 use Rattle.cept_profile.specs.Motions.{is_first_of, is_last_of, scrolling_area}
 use Rattle.cept_profile.specs.MovedRows.{row_before}
-use Rattle.cept_profile.specs.Pens.{attribute_of, flash_of, strokes_of_attribute, strokes_of_code, strokes_of_flash, strokes_of_reveal}
-use Rattle.cept_profile.specs.Pens.{strokes_of_row_attribute}
+use Rattle.cept_profile.specs.Pens.{attribute_of, flash_of, strokes_of_function}
 use Rattle.cept_profile.specs.Reach.{is_reached, is_reached_from, is_written, reaches, rows_in_reach}
 use Rattle.cept_codes.specs.declared.glyph.Read.{Read}
 use Rattle.cept_codes.specs.declared.glyph.Read.TheVariants as reads
@@ -107,27 +107,16 @@ none-repeat n s (Some g) = none-copies n s g
 none-marker : (s : ControlState) (m : Marker) → DefinesNothing (strokes_of_marker s m)
 none-marker s m = none-on s 1
 
-none-any_marker : (s : ControlState) (m : Option Marker) → DefinesNothing (strokes_of_any_marker s m)
-none-any_marker s None = refl
-none-any_marker s (Some m) = none-marker s m
+none-function : (c1 : C1Set) (m : Option Marker) (s : ControlState) → DefinesNothing (strokes_of_function c1 m s)
+none-function c1sets.Parallel m s = refl
+none-function c1sets.Serial None s = refl
+none-function c1sets.Serial (Some m) s = none-marker s m
 
-none-code : (c1 : C1Set) (n : ℕ) (s : ControlState) → DefinesNothing (strokes_of_code c1 n s)
-none-code c1sets.Parallel n s = refl
-none-code c1sets.Serial n s = none-any_marker s (marker_of s.working.table n)
-
-none-flash : (c1 : C1Set) (k : ℕ) (s : ControlState) → DefinesNothing (strokes_of_flash c1 k s)
-none-flash c1sets.Parallel k s = refl
-none-flash c1sets.Serial k s = none-marker s (markers.Flash (flash_of k s.working.fast))
-
-none-reveal : (c1 : C1Set) (s : ControlState) → DefinesNothing (strokes_of_reveal c1 s)
-none-reveal c1sets.Parallel s = refl
-none-reveal c1sets.Serial s = none-marker s (markers.Conceal false)
-
-none-screen : (attr : Option Attr) → DefinesNothing (strokes_of_attribute attr)
+none-screen : (attr : Option Attr) → DefinesNothing (map (λ attr. strokes.ScreenAttr attr) (option_to_list attr))
 none-screen None = refl
 none-screen (Some attr) = refl
 
-none-row : (r : ℕ) (attr : Option Attr) → DefinesNothing (strokes_of_row_attribute r attr)
+none-row : (r : ℕ) (attr : Option Attr) → DefinesNothing (map (λ attr. strokes.RowAttr r attr) (option_to_list attr))
 none-row r None = refl
 none-row r (Some attr) = refl
 
@@ -150,9 +139,10 @@ kind s commands.Clear = inl refl
 kind s (commands.Graphic byte) = inl (none-read s (graphic_result s byte).read)
 kind s (commands.Repeat n) = inl (none-repeat n s s.working.last)
 kind s commands.Cancel = inl refl
-kind s (commands.C1 n) = inl (none-code s.working.c1 n s)
-kind s (commands.FlashMode k) = inl (none-flash s.working.c1 k s)
-kind s commands.StopConceal = inl (none-reveal s.working.c1 s)
+kind s (commands.C1 n) = inl (none-function s.working.c1 (marker_of s.working.table n) s)
+kind s (commands.FlashMode k) =
+    inl (none-function s.working.c1 (Some (markers.Flash (flash_of k s.working.fast))) s)
+kind s commands.StopConceal = inl (none-function s.working.c1 (Some (markers.Conceal false)) s)
 kind s (commands.FullScreen n) = inl (none-screen (attribute_of s.working.table n))
 kind s (commands.FullRow n) = inl (none-row s.working.row (attribute_of s.working.table n))
 kind s commands.ColourDefaults = inr (inl (refl, refl))

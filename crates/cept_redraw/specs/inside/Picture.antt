@@ -1,17 +1,21 @@
 -- What private clauses say beside `Picture` (this project's own).
 use Rattle.std.specs.Prelude.{ℕ, ◌≡◌, ◌≤◌, ◌+◌, ◌-◌, ◌==◌, Bool, List}
 use Rattle.cept_codes.specs.declared.look.Look.{Look}
+use Rattle.cept_codes.specs.declared.stroke.Stroke.{Stroke}
 use Rattle.cept_codes.specs.Table.{list_by_index}
 use Rattle.cept_profile.specs.Changes.{differences}
 use Rattle.cept_profile.specs.Edges.{Edges, edges_of_core}
 use Rattle.cept_profile.specs.RowsFromAbove.{looks_in}
 use Rattle.cept_profile.specs.State.{Core, Page}
 use Rattle.cept_profile.specs.Valid.{IsValidPage}
+use Rattle.cept_page.specs.Parts.{pens_of}
 use Rattle.cept_redraw.specs.declared.followed_rows.Followed.{Followed}
 use Rattle.cept_redraw.specs.declared.picture.Picture.{Picture}
-use Rattle.cept_redraw.specs.inside.Due.{at_rest, rows_due, FollowsBeside, LeftStays, OtherRowsStay}
+use Rattle.cept_redraw.specs.inside.Due.{at_rest, followed, is_altered, rows_due}
+use Rattle.cept_redraw.specs.inside.Due.{FollowsBeside, LeftStays, OtherRowsStay}
 use Rattle.cept_redraw.specs.Kept.{AreEdges, AreLooksOn, core_on}
 use Rattle.cept_redraw.specs.inside.Kept.{IsRefreshedRow, is_other_above, row_beneath}
+use Rattle.cept_redraw.specs.inside.Named.{AreJustRemembered, IsStill}
 use Rattle.cept_redraw.specs.Marks.{no_marks}
 
 -- ---- refreshed
@@ -78,3 +82,23 @@ pub record MayBeRefreshedDown (row from until : ℕ) (picture : Picture) (edges 
   pub none : marked ≡ no_marks
   pub around : StaysAround row from until picture edges
   pub others : AreOthersKept (just_row row) at_rest picture.looks picture.page edges
+
+-- ---- redrawn row by row
+
+-- for each row from the top, whether strokes that lead from one page and its edges to another alter it
+abbrev pub rows_altered : List Stroke → Page → Edges → Page → Edges → List Bool
+rows_altered strokes was before now after =
+    list_by_index 1 24 (is_altered strokes (pens_of was) before (pens_of now) after)
+
+-- the rows followed through strokes, from the top
+abbrev pub rows_followed : List Stroke → List Followed
+rows_followed strokes = list_by_index 1 24 (followed strokes)
+
+-- strokes were redrawn by rows, where the edges lead from these to those: each row that is due was resolved and no other,
+-- and the names stay known of each row that is still and of no other
+pub record AreRowsRedrawn (strokes : List Stroke) (before after : Edges) (was now : Picture) (marked : List Bool)
+    (from to : ℕ) : Type 0 where
+  pub cost : to ≡ from
+      + rows_due (rows_altered strokes was.page before now.page after) (rows_followed strokes) was.looks now.looks
+  pub remembered : AreJustRemembered was.names now.names
+      (IsStill (rows_altered strokes was.page before now.page after) (rows_followed strokes) marked)

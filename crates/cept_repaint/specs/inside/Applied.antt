@@ -6,7 +6,7 @@ use Rattle.cept_codes.specs.Place.{Place}
 use Rattle.cept_profile.specs.Changes.{differences, grid_with_paints}
 use Rattle.cept_profile.specs.Look.{looks_of}
 use Rattle.cept_profile.specs.Strokes.{strokes_of}
-use Rattle.cept_profile.specs.State.{State, core_of, state}
+use Rattle.cept_profile.specs.State.{State, core_of}
 use Rattle.cept_profile.specs.OldValues.{OldValues, unwound}
 use Rattle.cept_redraw.specs.Picture.{IsNotedAlong}
 use Rattle.cept_redraw.specs.Renewed.{rows_renewed}

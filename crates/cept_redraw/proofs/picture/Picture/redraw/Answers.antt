@@ -13,7 +13,7 @@ returns-then-not-is_same g c = record {
       AreTicksOf-due c.requires.kept c.requires.to c.requires.strokes.each c.redraw_rows.ensures.redrawn.page
       c.redraw_rows.ensures.redrawn.kept.looks
       (mixes-edges c.args.before.now c.args.after.now c.args.strokes.now (c.is_same.ensures.others c.if-not-is_same.true))
-      c.redraw_rows.ensures.cost;
+      c.redraw_rows.ensures.rows.cost;
   noted = c.redraw_rows.ensures.noted;
 }
 
@@ -42,10 +42,10 @@ redraw_drawn-requires-clause-may g c = record {
 
 pub returns : goal.returns
 returns g c = record {
-  redrawn = c.redraw_drawn.ensures.redrawn;
+  redrawn = c.redraw_drawn.ensures.done.redrawn;
   ticks =
       subst (λ (e : Edges). AreTicksOf c.args.strokes.now e c.args.after.now c.args.self.now c.redraw_drawn.new.self
       c.args.steps.now c.redraw_drawn.new.steps) (sym (c.is_same.ensures.same c.if-not-is_same.false))
-      c.redraw_drawn.ensures.ticks;
-  noted = c.redraw_drawn.ensures.noted;
+      c.redraw_drawn.ensures.done.ticks;
+  noted = c.redraw_drawn.ensures.done.noted;
 }

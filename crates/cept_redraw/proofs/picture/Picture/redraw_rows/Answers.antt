@@ -155,41 +155,40 @@ returns-clause-noted g c = record {
   noted = c.draw_altering-altered.ensures.noted;
 }
 
-pub returns-clause-cost : goal.returns-clause-cost
-returns-clause-cost g c =
+pub returns-clause-rows : goal.returns-clause-rows
+returns-clause-rows g c =
     let altered = c.draw_altering-altered.ensures.altered
     ∙ ap (λ (p : Page). list_by_index 1 24 (is_altered c.args.strokes.now (pens_of c.args.self.now.page)
     c.args.before.now (pens_of p) c.args.after.now)) (sym (page_is g c)) in
-    elim c.if-one_moved.branch [
-      | then-one_moved w ↦
-          w.steps-is ∙ w.move_rows.ensures.refreshed.cost
-          ∙ (λ i. c.args.steps.now + rows_due (altered i) (c.follow_rows-rows.ensures i) c.args.self.now.looks
-          (sym w.self-is i).looks)
-      | else-one_moved w ↦
-          let are : AreStill c.draw_altering-altered.result c.follow_rows-rows.result = record {
-            freed = freed-altered c.draw_altering-altered.result c.follow_rows-rows.result c.args.strokes.now
-                (pens_of c.args.self.now.page) c.args.before.now (pens_of c.draw_altering-altered.new.page)
-                c.args.after.now
-                c.draw_altering-altered.ensures.altered c.follow_rows-rows.ensures;
-            still = c.one_moved.ensures w.if-one_moved.false;
-          } in
-          w.steps-is ∙ w.refresh_rows.ensures.refreshed.cost
-          ∙ ap (λ n. c.args.steps.now + n) (rows_due-still are c.args.self.now.looks w.refresh_rows.new.self.looks)
-          ∙ (λ i. c.args.steps.now + rows_due (altered i) (c.follow_rows-rows.ensures i) c.args.self.now.looks
-          (sym w.self-is i).looks)
-    ]
-
--- of just the rows that are still the names stay known
-pub returns-clause-remembered : goal.returns-clause-remembered
-returns-clause-remembered g c =
-    let altered = c.draw_altering-altered.ensures.altered
-    ∙ ap (λ (p : Page). list_by_index 1 24 (is_altered c.args.strokes.now (pens_of c.args.self.now.page)
-    c.args.before.now (pens_of p) c.args.after.now)) (sym (page_is g c)) in
-    subst (λ (n : NamesOfRows). AreJustRemembered n c.forget_rows.new.self (λ r. IsStill (list_by_index 1 24
-    (is_altered c.args.strokes.now (pens_of c.args.self.now.page) c.args.before.now (pens_of c.if-one_moved.self.page)
-    c.args.after.now)) (list_by_index 1 24 (followed c.args.strokes.now)) c.if-one_moved.marks r)) (names_are g c)
-    (subst (λ (rows : List Followed). AreJustRemembered c.if-one_moved.self.names c.forget_rows.new.self
-    (λ r. IsStill (list_by_index 1 24 (is_altered c.args.strokes.now (pens_of c.args.self.now.page) c.args.before.now
-    (pens_of c.if-one_moved.self.page) c.args.after.now)) rows c.if-one_moved.marks r)) c.follow_rows-rows.ensures
-    (subst (λ (flags : List Bool). AreJustRemembered c.if-one_moved.self.names c.forget_rows.new.self
-    (λ r. IsStill flags c.follow_rows-rows.result c.if-one_moved.marks r)) altered c.forget_rows.ensures))
+    record {
+      cost = elim c.if-one_moved.branch [
+        | then-one_moved w ↦
+            w.steps-is ∙ w.move_rows.ensures.refreshed.cost
+            ∙ (λ i. c.args.steps.now + rows_due (altered i) (c.follow_rows-rows.ensures i) c.args.self.now.looks
+            (sym w.self-is i).looks)
+        | else-one_moved w ↦
+            let are : AreStill c.draw_altering-altered.result c.follow_rows-rows.result = record {
+              freed = freed-altered c.draw_altering-altered.result c.follow_rows-rows.result c.args.strokes.now
+                  (pens_of c.args.self.now.page) c.args.before.now (pens_of c.draw_altering-altered.new.page)
+                  c.args.after.now
+                  c.draw_altering-altered.ensures.altered c.follow_rows-rows.ensures;
+              still = c.one_moved.ensures w.if-one_moved.false;
+            } in
+            w.steps-is ∙ w.refresh_rows.ensures.refreshed.cost
+            ∙ ap (λ n. c.args.steps.now + n) (rows_due-still are c.args.self.now.looks w.refresh_rows.new.self.looks)
+            ∙ (λ i. c.args.steps.now + rows_due (altered i) (c.follow_rows-rows.ensures i) c.args.self.now.looks
+            (sym w.self-is i).looks)
+      ];
+      -- of just the rows that are still the names stay known
+      remembered =
+          subst (λ (n : NamesOfRows). AreJustRemembered n c.forget_rows.new.self (λ r. IsStill (list_by_index 1 24
+          (is_altered c.args.strokes.now (pens_of c.args.self.now.page) c.args.before.now
+          (pens_of c.if-one_moved.self.page) c.args.after.now)) (list_by_index 1 24 (followed c.args.strokes.now))
+          c.if-one_moved.marks r)) (names_are g c)
+          (subst (λ (rows : List Followed). AreJustRemembered c.if-one_moved.self.names c.forget_rows.new.self
+          (λ r. IsStill (list_by_index 1 24 (is_altered c.args.strokes.now (pens_of c.args.self.now.page)
+          c.args.before.now (pens_of c.if-one_moved.self.page) c.args.after.now)) rows c.if-one_moved.marks r))
+          c.follow_rows-rows.ensures
+          (subst (λ (flags : List Bool). AreJustRemembered c.if-one_moved.self.names c.forget_rows.new.self
+          (λ r. IsStill flags c.follow_rows-rows.result c.if-one_moved.marks r)) altered c.forget_rows.ensures));
+    }

@@ -197,9 +197,9 @@ redraw_drawn-requires-clause-may g c =
 pub returns-in-None-clause-redrawn : goal.returns-in-None-clause-redrawn
 returns-in-None-clause-redrawn g c =
     subst (λ (e : Edges). IsRedrawn c.args.strokes.now e c.args.self.now c.redraw_drawn.new.self c.redraw_drawn.new.marks)
-    c.edges-within.ensures c.redraw_drawn.ensures.redrawn
+    c.edges-within.ensures c.redraw_drawn.ensures.done.redrawn
 
 pub returns-in-None-clause-ticks : goal.returns-in-None-clause-ticks
 returns-in-None-clause-ticks g c =
     subst (λ (e : Edges). AreTicksOf c.args.strokes.now e e c.args.self.now c.redraw_drawn.new.self c.args.steps.now
-    c.redraw_drawn.new.steps) c.edges-within.ensures c.redraw_drawn.ensures.ticks
+    c.redraw_drawn.new.steps) c.edges-within.ensures c.redraw_drawn.ensures.done.ticks
