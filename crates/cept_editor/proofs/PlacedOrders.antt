@@ -11,8 +11,8 @@ use Rattle.cept_editor.specs.declared.places.Span.{Span}
 use Rattle.cept_words.specs.Cut.{IsCut}
 use Rattle.cept_words.specs.Lines.{words}
 use Rattle.cept_words.specs.Words.{words_after, bytes_after}
-use Rattle.cept_editor.specs.Meaning.{Edit, HasCommand, is_sign, text_commands, step_by, step_of_words}
-use Rattle.cept_editor.specs.Order.{raw_bytes, order_step, AreSoundDigits, IsSoundOrder}
+use Rattle.cept_editor.specs.Meaning.{Edit, HasCommand, is_sign, step_by, step_of_words}
+use Rattle.cept_editor.specs.Order.{raw_bytes, text_commands, order_step, AreSoundDigits, IsSoundOrder}
 use Rattle.cept_editor.specs.inside.Order.{step_meant}
 use Rattle.cept_editor.specs.inside.Order.{IsPlainOrder}
 use Rattle.cept_editor.specs.Places.{LiesIn, bytes_at, step_at, IsPlacedOrder}

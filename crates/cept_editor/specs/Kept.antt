@@ -9,8 +9,7 @@ use Rattle.cept_profile.specs.Valid.{AllValid}
 use Rattle.cept_undo.specs.Past.{most_kept}
 use Rattle.cept_editor.specs.Meaning.{Step, TurnKind, Turn, TakeBack, MakeAgain, Edit}
 
--- the commands of each kept edit, in order, how many of the last edits can be taken back, and the commands of each undone
--- edit, the last undone first
+-- the commands of kept edits, how many of the last can be taken back, and those of undone edits, the last undone first
 pub record KeptEdits : Type 0 where
   pub edits : List (List Command)
   pub count : ℕ
@@ -25,8 +24,7 @@ abbrev pub finds_nothing : TurnKind → KeptEdits → Bool
 finds_nothing TakeBack k = k.count == 0
 finds_nothing MakeAgain k = length k.undone == 0
 
--- after a turn that finds something: an undo takes the last edit away and puts it first of the undone ones; a redo takes
--- the first of these and puts it last
+-- after a turn that finds something: an undo makes the last edit the first undone one; a redo makes this the last again
 abbrev pub kept_after_turn : KeptEdits → TurnKind → KeptEdits
 kept_after_turn k TakeBack = record {
   edits = take (length k.edits - 1) k.edits;

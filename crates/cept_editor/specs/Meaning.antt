@@ -52,9 +52,8 @@ alone step (v ∷ more) = Err reasons.WrongCount
 
 -- a command of one number
 abbrev pub one : (ℕ → Bool) → (ℕ → Command) → List (List ℕ) → Result Step LineReason
-one fits command [] = Err reasons.WrongCount
 one fits command (v ∷ []) = given (number v) (λ a. ranged (fits a) (command a))
-one fits command (v ∷ w ∷ more) = Err reasons.WrongCount
+one fits command _ = Err reasons.WrongCount
 
 -- a command of two numbers
 abbrev pub two : (ℕ → ℕ → Bool) → (ℕ → ℕ → Command) → List (List ℕ) → Result Step LineReason
@@ -70,30 +69,25 @@ four fits command (u ∷ v ∷ w ∷ x ∷ []) =
     ranged (fits a b c d) (command a b c d)))))
 four fits command _ = Err reasons.WrongCount
 
--- the commands that write a text: G0 locked to the left bytes, and then each sign
-abbrev pub text_commands : List ℕ → List Command
-text_commands text = LockLeft 0 ∷ map Graphic text
-
 -- a sign of a text: 2/0 to 7/14
 abbrev pub is_sign : ℕ → Bool
 is_sign a = is_between 0x20 0x7E a
 
--- the signs after the word and one space, at least one
+-- the signs after the word and one space, at least one: G0 is locked to the left bytes, and then each sign is written
 abbrev pub text : List ℕ → Result Step LineReason
 text [] = Err reasons.WrongCount
-text (a ∷ more) = if list_all is_sign (a ∷ more) then Ok (Edit (text_commands (a ∷ more))) else Err reasons.BadText
+text (a ∷ more) =
+    if list_all is_sign (a ∷ more) then Ok (Edit (LockLeft 0 ∷ map Graphic (a ∷ more))) else Err reasons.BadText
 
 -- the byte of two hexadecimal digits, the high one first
 abbrev pub byte_of : Option ℕ → Option ℕ → Option ℕ
 byte_of (Some high) (Some low) = Some (high * 16 + low)
-byte_of (Some high) None = None
-byte_of None low = None
+byte_of _ _ = None
 
 -- a byte before others, where all can be read
 abbrev pub with_byte : Option ℕ → Option (List ℕ) → Option (List ℕ)
 with_byte (Some a) (Some bytes) = Some (a ∷ bytes)
-with_byte (Some a) None = None
-with_byte None bytes = None
+with_byte _ _ = None
 
 -- the bytes of pairs of hexadecimal digits of either case
 unfoldable pub hex_bytes : List ℕ → Option (List ℕ)
@@ -107,16 +101,14 @@ bytes_have_refusal bytes = list_any (λ i. is_refusal i.what) (closed_items byte
 
 -- the edit of at least one byte, read by a parser from its start to its end
 abbrev pub bytes_step : Option (List ℕ) → Result Step LineReason
-bytes_step None = Err reasons.BadHex
-bytes_step (Some []) = Err reasons.BadHex
 bytes_step (Some (a ∷ more)) =
     if bytes_have_refusal (a ∷ more) then Err reasons.BadBytes else Ok (Edit (commands (a ∷ more)))
+bytes_step _ = Err reasons.BadHex
 
 -- the edit of one word of hexadecimal digits
 abbrev pub raw : List (List ℕ) → Result Step LineReason
-raw [] = Err reasons.WrongCount
 raw (v ∷ []) = bytes_step (hex_bytes v)
-raw (v ∷ w ∷ more) = Err reasons.WrongCount
+raw _ = Err reasons.WrongCount
 
 -- what the words after the first mean, and what stands after it and one space, by the row of the table
 abbrev pub step_by : Option Row → List (List ℕ) → List ℕ → Result Step LineReason

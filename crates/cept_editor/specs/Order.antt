@@ -1,5 +1,5 @@
 -- Commands in brief, orders, and what a parser goes on to say (this project's own).
-use Rattle.std.specs.Prelude.{ℕ, ◌≡◌, ◌-◌, ◌<◌, ◌^◌, true, List, [], ◌∷◌, ◌++◌, length}
+use Rattle.std.specs.Prelude.{ℕ, ◌≡◌, ◌-◌, ◌<◌, ◌^◌, true, List, [], ◌∷◌, ◌++◌, length, map}
 use Rattle.std.specs.Prelude.{false, IsSome}
 use Rattle.std.specs.Option.{unwrap_or}
 use Rattle.std.specs.List.{AllByRecursion, list_all}
@@ -15,7 +15,7 @@ use Rattle.cept_editor.specs.declared.brief.Brief.TheVariants as briefs
 use Rattle.cept_editor.specs.declared.order.Order.{Order}
 use Rattle.cept_editor.specs.declared.order.Order.TheVariants as orders
 use Rattle.cept_editor.specs.declared.places.Span.{Span}
-use Rattle.cept_editor.specs.Meaning.{Step, Turn, Edit, HasCommand, text_commands, is_sign, hex_bytes}
+use Rattle.cept_editor.specs.Meaning.{Step, Turn, Edit, HasCommand, is_sign, hex_bytes}
 
 -- the command of a brief one
 abbrev pub command_of : Brief → Command
@@ -46,6 +46,10 @@ command_of (briefs.Revision number) = commands.Revision number
 -- the bytes of hexadecimal digits, none where they can't be read
 abbrev pub raw_bytes : List ℕ → List ℕ
 raw_bytes digits = unwrap_or (hex_bytes digits) []
+
+-- the commands that write a text: G0 locked to the left bytes, and then each sign
+abbrev pub text_commands : List ℕ → List Command
+text_commands text = commands.LockLeft 0 ∷ map commands.Graphic text
 
 -- the step of an order, where these bytes stand at its place
 abbrev pub order_step : List ℕ → Order → Step

@@ -1,5 +1,5 @@
 -- A script (this project's own): its edits, and the first line that is outside the grammar. Lines are counted from 1.
-use Rattle.std.specs.Prelude.{◌≡◌, ℕ, ◌+◌, ◌≤◌, ◌<◌, List, [], ◌∷◌, ◌++◌, length, Option, Some, None, Result, Ok, Err, IsOk}
+use Rattle.std.specs.Prelude.{◌≡◌, ℕ, ◌+◌, ◌≤◌, ◌<◌, List, [], ◌∷◌, ◌++◌, length, Option, Some, Result, Ok, Err, IsOk}
 use Rattle.std.specs.List.{AllByRecursion}
 use Rattle.cept_codes.specs.declared.line_reason.LineReason.{LineReason}
 use Rattle.cept_codes.specs.Table.{entry}
@@ -15,8 +15,7 @@ pub record EditLine : Type 0 where
 -- the edit of a line of this number, if it is one
 abbrev pub edit_of : ℕ → Result (Option Step) LineReason → List EditLine
 edit_of n (Ok (Some step)) = record { line = n; step = step } ∷ []
-edit_of n (Ok None) = []
-edit_of n (Err reason) = []
+edit_of n _ = []
 
 -- the edits of lines, the first of which has this number
 unfoldable pub edits_from : ℕ → List (List ℕ) → List EditLine

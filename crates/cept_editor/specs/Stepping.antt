@@ -36,8 +36,7 @@ nothing_event listed line commands = record {
   text = if listed then nothing_line line else [];
 }
 
--- the events of an edit line, after a page's commands and these kept edits: one for each command of an edit, and one for
--- a turn
+-- the events of an edit line, after a page and these kept edits: one for each command of an edit, and one for a turn
 abbrev pub line_events : Bool → ℕ → List Command → KeptEdits → Step → List Event
 line_events listed line page k (Edit commands) = edit_events listed line (remaining page k) commands
 line_events listed line page k (Turn turn) =

@@ -7,8 +7,7 @@ use Rattle.cept_codes.specs.declared.command.Command.TheVariants as commands
 use Rattle.cept_codes.specs.declared.command.C1Set.TheVariants.{Serial, Parallel}
 use Rattle.cept_parser.specs.Bytes.{is_between}
 
--- what a word asks of its line: no word more, one, two or four numbers in a range, a text, hexadecimal digits, to undo,
--- or to redo
+-- what a word asks of its line: no word more, one, two or four numbers in range, a text, hexadecimal digits, undo, redo
 pub data Row : Type 0 where
   Alone : Command → Row
   One : (ℕ → Bool) → (ℕ → Command) → Row

@@ -16,10 +16,10 @@ use Rattle.cept_codes.specs.declared.item.Reason.{Reason}
 use Rattle.cept_codes.specs.declared.item.Reason.TheVariants as reasons
 use Rattle.cept_codes.specs.declared.item.Said.{Said}
 use Rattle.cept_codes.specs.declared.item.Said.TheVariants as said
+use Rattle.cept_codes.specs.declared.look.Paint.TheVariants as paints
 use Rattle.cept_codes.specs.declared.look.Rgb.{Rgb}
-use Rattle.cept_report.specs.Text.{reason_name, set_letter}
-use Rattle.cept_listing.specs.Listing.{c1_set_text, c1_text, code_text, colour_text, command_text, form_text}
-use Rattle.cept_listing.specs.Listing.{item_line, said_text, spaced}
+use Rattle.cept_report.specs.Text.{form_text, paint_text, reason_name, set_letter, spaced}
+use Rattle.cept_listing.specs.Listing.{c1_set_text, c1_text, code_text, command_text, item_line, said_text}
 use Rattle.cept_listing.specs.Names.{designation_names, flash_names, name_of, parallel_names, serial_names}
 
 -- ---- numbers and names
@@ -146,8 +146,9 @@ format_short : (r : ℕ) (word : List ℕ) → r < 100
     → length (spaced (codes "FORMAT" ∷ decimal r ∷ word ∷ [])) ≤ 10 + length word
 format_short r word h = omega (arith, few r h, length-append (decimal r) (32 ∷ word))
 
-colour_short : (i : ℕ) (c : Rgb) → i < 100 → length (spaced (codes "COLOUR" ∷ decimal i ∷ colour_text c ∷ [])) ≤ 13
-colour_short i c h = omega (arith, few i h, length-append (decimal i) (32 ∷ colour_text c))
+colour_short : (i : ℕ) (c : Rgb) → i < 100
+    → length (spaced (codes "COLOUR" ∷ decimal i ∷ paint_text (paints.Ink c) ∷ [])) ≤ 13
+colour_short i c h = omega (arith, few i h, length-append (decimal i) (32 ∷ paint_text (paints.Ink c)))
 
 rows_few : (r : ℕ) → (r ≡ 24) ⊎ (r ≡ 20) → r < 100
 rows_few r (inl is) = omega (arith, is)

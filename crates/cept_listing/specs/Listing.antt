@@ -4,7 +4,6 @@
 -- names, the parameters and the form of a line are this project's own. No two kinds of items have the same name.
 -- Numbers are decimal, codes are column/row.
 use Rattle.std.specs.Prelude.{ℕ, ◌+◌, ◌/◌, ◌%◌, Bool, List, [], ◌∷◌, ◌++◌, codes, decimal, if◌then◌else◌}
-use Rattle.std.specs.List.{join_with_byte}
 use Rattle.cept_codes.specs.declared.command.C1Set.{C1Set}
 use Rattle.cept_codes.specs.declared.command.C1Set.TheVariants as c1_sets
 use Rattle.cept_codes.specs.declared.command.Command.{Command}
@@ -12,14 +11,10 @@ use Rattle.cept_codes.specs.declared.command.Command.TheVariants as commands
 use Rattle.cept_codes.specs.declared.item.Item.{Item}
 use Rattle.cept_codes.specs.declared.item.Said.{Said}
 use Rattle.cept_codes.specs.declared.item.Said.TheVariants as said
-use Rattle.cept_codes.specs.declared.look.Rgb.{Rgb}
+use Rattle.cept_codes.specs.declared.look.Paint.TheVariants as paints
 use Rattle.cept_report.specs.Ascii.{ascii}
-use Rattle.cept_report.specs.Text.{hex_digit, reason_name, set_letter}
+use Rattle.cept_report.specs.Text.{form_text, line_of, paint_text, reason_name, set_letter, spaced}
 use Rattle.cept_listing.specs.Names.{designation_names, flash_names, name_of, parallel_names, serial_names}
-
--- words with a space between any two
-abbrev pub spaced : List (List ℕ) → List ℕ
-spaced words = join_with_byte (ascii " ") words
 
 -- a code by its column and row
 abbrev pub code_text : ℕ → List ℕ
@@ -33,14 +28,6 @@ c1_text n = code_text (0x80 + n)
 abbrev pub c1_set_text : C1Set → List ℕ
 c1_set_text c1_sets.Serial = codes "serial"
 c1_set_text c1_sets.Parallel = codes "parallel"
-
--- the width, the height and the number of planes of patterns
-abbrev pub form_text : ℕ → ℕ → ℕ → List ℕ
-form_text w h planes = join_with_byte (ascii "x") (decimal w ∷ decimal h ∷ decimal planes ∷ [])
-
--- a colour: red, green and blue as a hexadecimal digit each
-abbrev pub colour_text : Rgb → List ℕ
-colour_text c = hex_digit c.r ∷ hex_digit c.g ∷ hex_digit c.b ∷ []
 
 -- one text or another
 abbrev pub either : Bool → List ℕ → List ℕ → List ℕ
@@ -86,7 +73,7 @@ command_text (commands.FullRow n) = spaced (codes "ROW" ∷ c1_text n ∷ name_o
 command_text (commands.ColourHeader d) = spaced (codes "COLOUR-HEADER" ∷ either d (codes "dclut") (codes "table") ∷ [])
 command_text commands.ColourDefaults = codes "COLOUR-DEFAULTS"
 command_text (commands.ColourStart i) = spaced (codes "COLOUR-START" ∷ decimal i ∷ [])
-command_text (commands.Entry i c) = spaced (codes "COLOUR" ∷ decimal i ∷ colour_text c ∷ [])
+command_text (commands.Entry i c) = spaced (codes "COLOUR" ∷ decimal i ∷ paint_text (paints.Ink c) ∷ [])
 command_text (commands.Dclut i v) = spaced (codes "DCLUT" ∷ decimal i ∷ decimal v ∷ [])
 command_text (commands.DrcsHeader d f) =
     spaced (codes "DRCS-HEADER" ∷ either d (codes "delete") (codes "keep") ∷ form_text f.w f.h f.planes ∷ [])
@@ -107,4 +94,4 @@ said_text (said.Refused reason) = spaced (codes "REFUSED" ∷ reason_name reason
 
 -- the line of an item
 abbrev pub item_line : Item → List ℕ
-item_line item = spaced (decimal item.at ∷ decimal item.len ∷ said_text item.what ∷ []) ++ ascii "\n" ∷ []
+item_line item = line_of (decimal item.at ∷ decimal item.len ∷ said_text item.what ∷ [])

@@ -3,8 +3,7 @@
 use Rattle.std.specs.Prelude.{ℕ, List, [], ◌∷◌, codes}
 use Rattle.std.specs.List.{slice_index_or}
 
--- the serial set, from 8/0 to 9/15: alpha colours, flash, box and sizes, mosaic colours, concealing, lining,
--- backgrounds and hold
+-- the serial set, 8/0 to 9/15: alpha colours, flash, box, sizes, mosaic colours, concealing, lining, backgrounds, hold
 abbrev pub serial_names : List (List ℕ)
 serial_names =
     codes "ABK" ∷ codes "ANR" ∷ codes "ANG" ∷ codes "ANY" ∷ codes "ANB" ∷ codes "ANM" ∷ codes "ANC" ∷ codes "ANW"

@@ -4,8 +4,9 @@ ghost use Rattle.std.specs.Prelude.{◌≡◌, ◌+◌, ◌≤◌, ◌∷◌, []
 ghost use Rattle.cept_codes.specs.Command.{IsValidCommand, IsValidForm};
 ghost use Rattle.cept_codes.specs.Look.{IsValidPattern};
 ghost use Rattle.std.specs.Prelude.{codes, if◌then◌else◌};
-ghost use Rattle.cept_listing.specs.Listing.{code_text, command_text, either, form_text, spaced};
+ghost use Rattle.cept_listing.specs.Listing.{code_text, command_text, either};
 ghost use Rattle.cept_report.specs.Room.{Adds, HasRoomFor};
+ghost use Rattle.cept_report.specs.Text.{form_text, spaced};
 
 use crate::names::{flash_name, parallel_name};
 use crate::parameters::{

@@ -3,10 +3,10 @@
 ghost use Rattle.std.specs.Prelude.{◌≡◌, ◌+◌, ◌≤◌, ◌<◌, ◌∷◌, [], ◌++◌, length, decimal, codes};
 ghost use Rattle.arrayvec.specs.ArrayVec.{array_vec_len};
 ghost use Rattle.cept_codes.specs.Look.{IsValidRgb};
+ghost use Rattle.cept_codes.specs.declared.look.Paint.TheVariants as paints;
 ghost use Rattle.cept_report.specs.Room.{Adds, HasRoomFor};
-ghost use Rattle.cept_report.specs.Text.{set_letter};
-ghost use Rattle.cept_listing.specs.Listing.{c1_set_text, c1_text, code_text, colour_text, either};
-ghost use Rattle.cept_listing.specs.Listing.{form_text, spaced};
+ghost use Rattle.cept_report.specs.Text.{form_text, paint_text, set_letter, spaced};
+ghost use Rattle.cept_listing.specs.Listing.{c1_set_text, c1_text, code_text, either};
 ghost use Rattle.cept_listing.specs.Names.{designation_names, name_of, parallel_names};
 ghost use Rattle.cept_listing.specs.Names.{serial_names};
 
@@ -134,7 +134,7 @@ pub fn add_colour(line: &mut Line, entry: u8, c: &Rgb)
     requires room { HasRoomFor 26 line.old }
     requires entry { entry < 100 }
     requires valid { IsValidRgb c.now }
-    ensures { Adds line.old 26 (spaced (codes "COLOUR" ∷ decimal entry ∷ colour_text c.now ∷ []))
+    ensures { Adds line.old 26 (spaced (codes "COLOUR" ∷ decimal entry ∷ paint_text (paints.Ink c.now) ∷ []))
         line.new }
 {
     add_one(line, b"COLOUR", entry);

@@ -12,8 +12,9 @@ use Rattle.cept_codes.specs.Place.{OnScreen, Place}
 use Rattle.cept_profile.specs.Sets.{initial_sets, sign}
 use Rattle.cept_profile.specs.State.{Core, Page, State, state_after}
 use Rattle.cept_profile.specs.Valid.{AllValid, IsValidPage}
-use Rattle.cept_plot.specs.Commands.{code_of_value, is_written_anew, numbered_cell_commands, value_commands}
+use Rattle.cept_plot.specs.Commands.{code_of_value, is_written_anew, value_commands}
 use Rattle.cept_plot.specs.Commands.{value_of_points}
+use Rattle.cept_plot.proofs.CommandsInTurn.{numbered_cell_commands}
 use Rattle.cept_plot.specs.inside.Drawing.{cell_of_value}
 use Rattle.cept_repaint.specs.InTurn.{state_after_all}
 use Rattle.cept_plot.proofs.ControlInDrawing.{Hand, control_at, hand_after, hand_at, mosaic_gives, mosaic_sets}

@@ -1,10 +1,15 @@
 -- The commands of a drawing: those of one number more.
-use Rattle.std.proofs.Common.{◌≡◌, ℕ, zero, suc, ◌+◌, Bool, List, [], ◌++◌}
+use Rattle.std.proofs.Common.{◌≡◌, ℕ, zero, suc, ◌+◌, ◌/◌, ◌%◌, Bool, List, [], ◌++◌}
 use Rattle.std.proofs.Common.{flat_map, refl, sym, ap, ◌∙◌, append_assoc, arith}
 use Rattle.std.proofs.lemmas.List.{append-nil}
 use Rattle.std.specs.List.{range_with_len}
+use Rattle.cept_codes.specs.declared.command.Command.{Command}
 use Rattle.cept_profile.specs.State.{Core}
-use Rattle.cept_plot.specs.Commands.{cells_commands, numbered_cell_commands}
+use Rattle.cept_plot.specs.Commands.{cell_commands, cells_commands}
+
+-- those of the cell of this number, counted from 0 in reading order
+abbrev pub numbered_cell_commands : Core → (ℕ → ℕ → Bool) → ℕ → List Command
+numbered_cell_commands k f n = cell_commands k f (n / 40 + 1) (n % 40 + 1)
 
 last_of_range : {X : Type 0} (g : ℕ → List X) (from n last : ℕ) → from + n ≡ last
     → flat_map g (range_with_len from (suc n)) ≡ flat_map g (range_with_len from n) ++ g last

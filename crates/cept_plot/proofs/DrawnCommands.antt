@@ -9,12 +9,13 @@ use Rattle.cept_codes.specs.Place.{OnScreen}
 use Rattle.cept_codes.proofs.Laws.{OnScreen-place_of}
 use Rattle.cept_plot.specs.declared.figure.Figure.{Figure}
 use Rattle.cept_plot.specs.Commands.{weight_if, value_of_points, code_of_value, value_commands, cell_in_core}
-use Rattle.cept_plot.specs.Commands.{is_written_anew, cell_commands, numbered_cell_commands, cells_commands, opening, drawn}
+use Rattle.cept_plot.specs.Commands.{is_written_anew, cell_commands, cells_commands, opening, drawn}
 use Rattle.cept_plot.specs.Drawings.{points_after_all}
 use Rattle.cept_plot.specs.Figures.{is_of_figure, adds, points_after}
 use Rattle.cept_plot.specs.Points.{OnField, value_in_core}
 use Rattle.cept_profile.specs.State.{Core}
 use Rattle.cept_profile.specs.Valid.{AllValid}
+use Rattle.cept_plot.proofs.CommandsInTurn.{numbered_cell_commands}
 use Rattle.cept_plot.proofs.PaintedInTurn.{AllValid-append}
 use Rattle.cept_plot.proofs.ValuesWritten.{value_of_points-lt}
 

@@ -17,7 +17,8 @@ use Rattle.cept_profile.specs.Valid.{AllValid, IsValidState}
 use Rattle.cept_profile.specs.Working.{ControlState}
 use Rattle.cept_profile.proofs.Laws.{IsValidState-state_after}
 use Rattle.cept_plot.specs.Commands.{IsDrawnOn, cell_in_core, cells_commands, drawn, is_written_anew}
-use Rattle.cept_plot.specs.Commands.{numbered_cell_commands, opening, value_commands, value_of_points}
+use Rattle.cept_plot.specs.Commands.{opening, value_commands, value_of_points}
+use Rattle.cept_plot.proofs.CommandsInTurn.{numbered_cell_commands}
 use Rattle.cept_plot.specs.inside.Drawing.{StandsDrawn, cell_in_drawing, cell_of_value, control_in_drawing}
 use Rattle.cept_repaint.specs.InTurn.{state_after_all}
 use Rattle.cept_plot.proofs.CellDrawn.{IsPut, commands_none, commands_valid, commands_written, none_of_all, value_put}

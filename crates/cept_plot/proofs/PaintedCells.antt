@@ -7,11 +7,11 @@ use Rattle.cept_codes.specs.declared.command.Command.TheVariants as commands
 use Rattle.cept_codes.specs.Place.{Place, place_of}
 use Rattle.cept_profile.specs.State.{Core, State, core_of}
 use Rattle.cept_repaint.specs.GlassState.{GlassState}
-use Rattle.cept_plot.specs.Commands.{cell_commands, cells_commands, code_of_value, is_written_anew, numbered_cell_commands}
+use Rattle.cept_plot.specs.Commands.{cell_commands, cells_commands, code_of_value, is_written_anew}
 use Rattle.cept_plot.specs.Commands.{value_commands, value_of_points}
 use Rattle.cept_plot.specs.inside.Drawing.{StandsDrawn}
 use Rattle.cept_plot.specs.inside.ValidPainted.{ArePaintedAndValid}
-use Rattle.cept_plot.proofs.CommandsInTurn.{cells_commands-more, cells_commands-none}
+use Rattle.cept_plot.proofs.CommandsInTurn.{cells_commands-more, cells_commands-none, numbered_cell_commands}
 use Rattle.cept_plot.proofs.DrawnInTurn.{stands_next, written_now}
 use Rattle.cept_plot.proofs.PaintedInTurn.{painted_more, painted_none}
 

@@ -10,7 +10,8 @@ use Rattle.cept_codes.specs.Cell.{blank_cell}
 use Rattle.cept_codes.specs.Table.{row_of, table}
 use Rattle.cept_profile.specs.Sets.{sign}
 use Rattle.cept_profile.specs.State.{Core, blank_page}
-use Rattle.cept_plot.specs.Commands.{cells_commands, code_of_value, drawn, numbered_cell_commands, value_of_points}
+use Rattle.cept_plot.specs.Commands.{cells_commands, code_of_value, drawn, value_of_points}
+use Rattle.cept_plot.proofs.CommandsInTurn.{numbered_cell_commands}
 
 -- four points from the left in the second row of points
 abbrev points : ℕ → ℕ → Bool

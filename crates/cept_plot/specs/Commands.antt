@@ -52,13 +52,9 @@ abbrev pub cell_commands : Core → (ℕ → ℕ → Bool) → ℕ → ℕ → L
 cell_commands k f r c =
     if is_written_anew k f r c then commands.Position r c ∷ value_commands (value_of_points f r c) else []
 
--- of the cell of this number, counted from 0 in reading order
-abbrev pub numbered_cell_commands : Core → (ℕ → ℕ → Bool) → ℕ → List Command
-numbered_cell_commands k f n = cell_commands k f (n / 40 + 1) (n % 40 + 1)
-
--- the cells of the first n numbers, one after the other
+-- the first n cells in reading order, one after the other
 unfoldable pub cells_commands : Core → (ℕ → ℕ → Bool) → ℕ → List Command
-cells_commands k f n = flat_map (numbered_cell_commands k f) (range_with_len 0 n)
+cells_commands k f n = flat_map (λ i. cell_commands k f (i / 40 + 1) (i % 40 + 1)) (range_with_len 0 n)
 
 -- before them the control state is reset, and implicit scrolling off
 abbrev pub opening : List Command

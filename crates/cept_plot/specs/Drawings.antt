@@ -18,8 +18,7 @@ use Rattle.cept_words.specs.Lines.{lines, number, words}
 -- the point of two numbers, where it is on the field
 abbrev pub point_of : Option ℕ → Option ℕ → Option Point
 point_of (Some x) (Some y) = if nat_lt x 80 && nat_lt y 72 then Some (record { x = x; y = y }) else None
-point_of (Some x) None = None
-point_of None y = None
+point_of _ _ = None
 
 -- the point of two words
 abbrev pub point : List ℕ → List ℕ → Option Point
@@ -32,8 +31,7 @@ at_point figure None = Err reasons.BadNumber
 
 abbrev pub between_points : (Point → Point → Figure) → Option Point → Option Point → Result Figure LineReason
 between_points figure (Some p) (Some q) = Ok (figure p q)
-between_points figure (Some p) None = Err reasons.BadNumber
-between_points figure None q = Err reasons.BadNumber
+between_points figure _ _ = Err reasons.BadNumber
 
 -- a figure of two words, and of four words
 abbrev pub of_two : (Point → Figure) → List (List ℕ) → Result Figure LineReason
@@ -74,8 +72,7 @@ line_meaning (a ∷ more) = if a == 0x23 then Ok None else some_figure (figure_o
 -- the figure of a line, if it has one
 abbrev pub figure_in : Result (Option Figure) LineReason → List Figure
 figure_in (Ok (Some figure)) = figure ∷ []
-figure_in (Ok None) = []
-figure_in (Err reason) = []
+figure_in _ = []
 
 -- the figures of lines
 unfoldable pub figures_in : List (List ℕ) → List Figure

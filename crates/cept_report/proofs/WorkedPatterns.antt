@@ -2,6 +2,7 @@
 use Rattle.std.proofs.Common.{◌≡◌, ℕ, ◌-◌, ◌^◌, [], ◌∷◌, ◌++◌, codes, length, map, replicate, refl}
 use Rattle.std.specs.Char.{encode_utf8}
 use Rattle.std.specs.Fmt.{digits}
+use Rattle.std.specs.Int.{div_ceil}
 use Rattle.cept_codes.specs.declared.look.Inks.{Inks}
 use Rattle.cept_codes.specs.declared.look.Look.{Look}
 use Rattle.cept_codes.specs.declared.look.Paint.{Paint}
@@ -9,7 +10,7 @@ use Rattle.cept_codes.specs.declared.look.Paint.TheVariants as paints
 use Rattle.cept_codes.specs.declared.look.Shape.TheVariants as shapes
 use Rattle.cept_codes.specs.Look.{black_paint, blank_look}
 use Rattle.cept_report.specs.Screen.{cell_text, look_sign, shape_sign}
-use Rattle.cept_report.specs.Text.{change_line, hex_word, ink_texts, look_text, pattern_text, shape_text, words_needed}
+use Rattle.cept_report.specs.Text.{change_line, hex_word, ink_texts, look_text, pattern_text, shape_text}
 
 abbrev ink : ℕ → ℕ → ℕ → Paint
 ink r g b = paints.Ink (record { r = r; g = g; b = b })
@@ -109,7 +110,7 @@ unfolding shape_text pattern_text ink_texts hex_word digits
 longest_line = refl
 
 -- 6x5, 6x6, 6x10, 6x12, 12x10 and 12x12 in 1, 2 and 4 planes
-pub words_of_each_form : map (λ n. words_needed n) (30 ∷ 60 ∷ 120 ∷ 36 ∷ 72 ∷ 144 ∷ 60 ∷ 120 ∷ 240 ∷ [])
-    ++ map (λ n. words_needed n) (72 ∷ 144 ∷ 288 ∷ 120 ∷ 240 ∷ 480 ∷ 144 ∷ 288 ∷ 576 ∷ [])
+pub words_of_each_form : map (λ n. div_ceil n 64) (30 ∷ 60 ∷ 120 ∷ 36 ∷ 72 ∷ 144 ∷ 60 ∷ 120 ∷ 240 ∷ [])
+    ++ map (λ n. div_ceil n 64) (72 ∷ 144 ∷ 288 ∷ 120 ∷ 240 ∷ 480 ∷ 144 ∷ 288 ∷ 576 ∷ [])
     ≡ 1 ∷ 1 ∷ 2 ∷ 1 ∷ 2 ∷ 3 ∷ 1 ∷ 2 ∷ 4 ∷ 2 ∷ 3 ∷ 5 ∷ 2 ∷ 4 ∷ 8 ∷ 3 ∷ 5 ∷ 9 ∷ []
 words_of_each_form = refl

@@ -1,7 +1,7 @@
 -- Texts of a screen, in UTF-8: its signs, and its looks that aren't blank. They are this project's own.
-use Rattle.std.specs.Prelude.{ℕ, ◌*◌, Bool, ◌||◌, List, [], ◌∷◌, ◌++◌, codes, decimal, encode_utf8, flat_map, nat_lt}
+use Rattle.std.specs.Prelude.{ℕ, ◌*◌, ◌||◌, List, [], ◌∷◌, ◌++◌, codes, decimal, encode_utf8, flat_map, nat_lt}
 use Rattle.std.specs.Prelude.{if◌then◌else◌}
-use Rattle.std.specs.List.{join_with_byte, range_with_len}
+use Rattle.std.specs.List.{range_with_len}
 use Rattle.cept_codes.specs.declared.look.Look.{Look}
 use Rattle.cept_codes.specs.declared.look.Shape.{Shape}
 use Rattle.cept_codes.specs.declared.look.Shape.TheVariants as shapes
@@ -12,7 +12,7 @@ use Rattle.cept_codes.specs.Table.{value_at}
 use Rattle.cept_charsets.specs.Rendition.{rendition}
 use Rattle.cept_profile.specs.Changes.{look_at}
 use Rattle.cept_report.specs.Ascii.{ascii}
-use Rattle.cept_report.specs.Text.{look_text}
+use Rattle.cept_report.specs.Text.{line_of, look_text}
 
 -- a space, the rendition of a sign, or a white square for a pattern
 unfoldable pub shape_sign : Shape → List ℕ
@@ -20,13 +20,9 @@ shape_sign shapes.Space = codes " "
 shape_sign (shapes.Char g) = rendition g
 shape_sign (shapes.Drcs pattern inks) = encode_utf8 0x25A1
 
--- the look is concealed, or shows another part of its shape than the upper left
-abbrev pub is_hidden : Look → Bool
-is_hidden l = l.conceal || nat_lt 0 l.dy || nat_lt 0 l.dx
-
--- the sign of a look: a space where it is hidden
+-- the sign of a look: a space where it is concealed, or shows another part of its shape than the upper left
 unfoldable pub look_sign : Look → List ℕ
-look_sign l = if is_hidden l then codes " " else shape_sign l.shape
+look_sign l = if l.conceal || nat_lt 0 l.dy || nat_lt 0 l.dx then codes " " else shape_sign l.shape
 
 -- the signs of row r from the left, and a line feed
 unfoldable pub row_line : List (List Look) → ℕ → List ℕ
@@ -38,7 +34,7 @@ screen_text g rows = flat_map (row_line g) (range_with_len 1 rows)
 
 -- the row, the column and the look
 abbrev pub cell_line : Place → Look → List ℕ
-cell_line p l = join_with_byte (ascii " ") (decimal p.row ∷ decimal p.column ∷ look_text l ∷ []) ++ ascii "\n" ∷ []
+cell_line p l = line_of (decimal p.row ∷ decimal p.column ∷ look_text l ∷ [])
 
 -- the line of a place, and none where its look is blank
 unfoldable pub cell_text : Place → Look → List ℕ

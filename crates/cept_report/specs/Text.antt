@@ -56,18 +56,17 @@ abbrev pub paint_text : Paint → List ℕ
 paint_text (paints.Ink c) = hex_digit c.r ∷ hex_digit c.g ∷ hex_digit c.b ∷ []
 paint_text paints.Video = codes "---"
 
--- the least number of words of 64 bits that hold so many bits
-abbrev pub words_needed : ℕ → ℕ
-words_needed bits = div_ceil bits 64
-
--- the words that the pixels of all planes need, in order
+-- the words of 64 bits that the pixels of all planes need, in order
 abbrev pub pixel_words : Pattern → List ℕ
-pixel_words p = take (words_needed (p.w * p.h * p.planes)) p.bits
+pixel_words p = take (div_ceil (p.w * p.h * p.planes) 64) p.bits
 
--- a percent sign, the width, the height and the number of planes, and the words of the pixels
+-- the width, the height and the number of planes of patterns
+abbrev pub form_text : ℕ → ℕ → ℕ → List ℕ
+form_text w h planes = join_with_byte (ascii "x") (decimal w ∷ decimal h ∷ decimal planes ∷ [])
+
+-- a percent sign, the form, and the words of the pixels
 unfoldable pub pattern_text : Pattern → List ℕ
-pattern_text p = ascii "%" ∷ join_with_byte (ascii "x") (decimal p.w ∷ decimal p.h ∷ decimal p.planes ∷ [])
-    ++ ascii "/" ∷ flat_map hex_word (pixel_words p)
+pattern_text p = ascii "%" ∷ form_text p.w p.h p.planes ++ ascii "/" ∷ flat_map hex_word (pixel_words p)
 
 -- the paints of all inks, where a pattern has more than one plane
 unfoldable pub ink_texts : ℕ → Inks → List ℕ
@@ -105,20 +104,25 @@ signs_text l =
     flash_letter l.flash ∷ flag_letter (ascii "c") l.conceal ∷ flag_letter (ascii "l") l.lined
     ∷ flag_letter (ascii "b") l.boxed ∷ []
 
+-- words with a space between any two
+abbrev pub spaced : List (List ℕ) → List ℕ
+spaced words = join_with_byte (ascii " ") words
+
 -- the fields after the shape: part, foreground, background, and the four signs
 abbrev pub fields_text : Look → List ℕ
-fields_text l = join_with_byte (ascii " ") (part_text l ∷ paint_text l.fore ∷ paint_text l.back ∷ signs_text l ∷ [])
+fields_text l = spaced (part_text l ∷ paint_text l.fore ∷ paint_text l.back ∷ signs_text l ∷ [])
 
 -- five fields: shape, part, foreground, background, and the four signs
 abbrev pub look_text : Look → List ℕ
-look_text l = join_with_byte (ascii " ")
-    (shape_text l.shape ∷ part_text l ∷ paint_text l.fore ∷ paint_text l.back ∷ signs_text l ∷ [])
+look_text l = spaced (shape_text l.shape ∷ part_text l ∷ paint_text l.fore ∷ paint_text l.back ∷ signs_text l ∷ [])
+
+-- words as a line
+abbrev pub line_of : List (List ℕ) → List ℕ
+line_of words = spaced words ++ ascii "\n" ∷ []
 
 -- the label, the row, the column and the look
 abbrev pub change_line : ℕ → Place → Look → List ℕ
-change_line label p l =
-    join_with_byte (ascii " ") (decimal label ∷ decimal p.row ∷ decimal p.column ∷ look_text l ∷ [])
-    ++ ascii "\n" ∷ []
+change_line label p l = line_of (decimal label ∷ decimal p.row ∷ decimal p.column ∷ look_text l ∷ [])
 
 -- a line for each changed place
 unfoldable pub change_lines : ℕ → List (Place × Look) → List ℕ
@@ -147,19 +151,16 @@ reason_name reasons.Truncated = codes "Truncated"
 
 -- an exclamation mark, the place, the length, and the reason's number and name
 abbrev pub refusal_line : ℕ → ℕ → Reason → List ℕ
-refusal_line place size reason = join_with_byte (ascii " ")
-    (codes "!" ∷ decimal place ∷ decimal size ∷ decimal (reason_number reason) ∷ reason_name reason ∷ [])
-    ++ ascii "\n" ∷ []
+refusal_line place size reason =
+    line_of (codes "!" ∷ decimal place ∷ decimal size ∷ decimal (reason_number reason) ∷ reason_name reason ∷ [])
 
 -- how many items there are, and how many of them are refused
 abbrev pub check_line : ℕ → ℕ → List ℕ
-check_line items refused =
-    join_with_byte (ascii " ") (codes "items" ∷ decimal items ∷ codes "refused" ∷ decimal refused ∷ [])
-    ++ ascii "\n" ∷ []
+check_line items refused = line_of (codes "items" ∷ decimal items ∷ codes "refused" ∷ decimal refused ∷ [])
 
 -- the line of an undo where no edit can be taken back, or of a redo where none is undone: its number and a word
 abbrev pub nothing_line : ℕ → List ℕ
-nothing_line line = join_with_byte (ascii " ") (decimal line ∷ codes "nothing" ∷ []) ++ ascii "\n" ∷ []
+nothing_line line = line_of (decimal line ∷ codes "nothing" ∷ [])
 
 -- the number of a reason of a script's line
 unfoldable pub line_reason_number : LineReason → ℕ
@@ -181,13 +182,11 @@ line_reason_name line_reasons.BadBytes = codes "BadBytes"
 
 -- the number of the script's line that is outside the grammar, a colon, and the reason's number and name
 abbrev pub script_fault_line : ℕ → LineReason → List ℕ
-script_fault_line line reason = join_with_byte (ascii " ")
-    (codes "script" ∷ codes "line" ∷ (decimal line ++ ascii ":" ∷ []) ∷ decimal (line_reason_number reason)
+script_fault_line line reason =
+    line_of (codes "script" ∷ codes "line" ∷ (decimal line ++ ascii ":" ∷ []) ∷ decimal (line_reason_number reason)
     ∷ line_reason_name reason ∷ [])
-    ++ ascii "\n" ∷ []
 
 -- how many bytes a page has, how many items, and how many places its commands change, one command after the other
 abbrev pub load_line : ℕ → ℕ → ℕ → List ℕ
-load_line bytes items paints = join_with_byte (ascii " ")
-    (codes "bytes" ∷ decimal bytes ∷ codes "items" ∷ decimal items ∷ codes "paints" ∷ decimal paints ∷ [])
-    ++ ascii "\n" ∷ []
+load_line bytes items paints =
+    line_of (codes "bytes" ∷ decimal bytes ∷ codes "items" ∷ decimal items ∷ codes "paints" ∷ decimal paints ∷ [])

@@ -5,7 +5,7 @@ ghost use Rattle.cept_profile.specs.Changes.{look_at};
 ghost use Rattle.cept_profile.specs.Look.{looks_of};
 ghost use Rattle.cept_profile.specs.State.{core_of};
 ghost use Rattle.cept_codes.specs.declared.look.Look.{Look};
-ghost use Rattle.cept_codes.specs.Look.{IsValidLook, IsValidPaint};
+ghost use Rattle.cept_codes.specs.Look.{IsValidLook, IsValidPaint, blank_look};
 ghost use Rattle.cept_report.specs.Ending.{ending_text};
 ghost use Rattle.cept_report.specs.inside.Ending.{fields_of, paint_word};
 ghost use Rattle.cept_report.specs.Room.{HasRoomFor};
@@ -98,7 +98,9 @@ impl Ending {
     /// The end of a line with the blank look.
     #[inline(always)]
     #[tactic(auto, using(crate::proofs::Endings::ending_same))]
-    pub fn blank() -> Ending {
+    pub fn blank() -> Ending
+        ensures { result.fields ≡ fields_of blank_look }
+    {
         Ending {
             fields: fields_of(&Look::BLANK),
             text: *b" 11.00 FFF 000 S---\n",

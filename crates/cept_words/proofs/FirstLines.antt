@@ -1,16 +1,20 @@
 -- The first line of bytes, where a byte ends it, and the lines after it.
-use Rattle.std.proofs.Common.{◌≡◌, ℕ, ◌+◌, ◌-◌, ◌<◌, List, [], ◌∷◌, length, take, drop, refl, ap, ◌∙◌, arith}
+use Rattle.std.proofs.Common.{◌≡◌, ℕ, ◌+◌, ◌-◌, ◌<◌, Bool, ◌==◌, List, [], ◌∷◌, length, take, drop, refl, ap, ◌∙◌, arith}
 use Rattle.std.specs.List.{slice_split}
 use Rattle.std.proofs.lemmas.List.{length-drop}
 use Rattle.std.proofs.lemmas.List.Splits.{length-slice_split}
 use Rattle.cept_words.specs.Cut.{IsFirstLine}
-use Rattle.cept_words.specs.Lines.{ends_line, lines_of_parts}
+use Rattle.cept_words.specs.Lines.{lines_of_parts}
 
 -- a part before some parts
 line_before : (part : List ℕ) (parts : List (List ℕ)) → 0 < length parts
     → lines_of_parts (part ∷ parts) ≡ part ∷ lines_of_parts parts
 line_before part [] l = absurd (omega arith)
 line_before part (next ∷ parts) l = refl
+
+-- the byte that ends a line
+abbrev ends_line : ℕ → Bool
+ends_line a = a == 0x0A
 
 pub line_ended : (bytes part rest : List ℕ) → slice_split ends_line bytes ≡ part ∷ slice_split ends_line rest
     → part ≡ take (length part) bytes → rest ≡ drop (length part + 1) bytes → length part < length bytes
