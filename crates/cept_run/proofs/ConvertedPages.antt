@@ -35,7 +35,7 @@ use Rattle.cept_run.proofs.PaintedItems.{chained-one, each_shown}
 use Rattle.cept_run.proofs.FrontsPut.{cut_front, either_front, either_with}
 use Rattle.cept_run.proofs.ReportedFronts.{same_sink}
 use Rattle.cept_run.proofs.Selections.{selected_is, given_left, put_either, EndsPut, put_unless, room_kept}
-use Rattle.cept_run.proofs.StoppedScripts.{first_fault-none, named_so_long, name_in}
+use Rattle.cept_run.proofs.StoppedScripts.{named_so_long, name_in}
 
 -- ---- what is converted
 
@@ -108,9 +108,8 @@ module _ (action : BytesAction) (name : List ℕ) (before : Outside) where
     ends = record {
       read_fault = cause.failed;
       unended = selects.ended;
-      name = name;
-      named = refl;
       which = inl (record {
+        name = name;
         first = record {
           named = refl;
           front = [];
@@ -126,7 +125,6 @@ module _ (action : BytesAction) (name : List ℕ) (before : Outside) where
       });
     };
     shelf = record {
-      script_first = λ other bytes named holds stops. cc;
       missed = λ there scripts. selects.missed_stays there;
       selects = λ touched. inl (λ chosen is. inl (selects.failed.chosen chosen is));
       files = selects.keeps;
@@ -134,7 +132,7 @@ module _ (action : BytesAction) (name : List ℕ) (before : Outside) where
     };
     shelf_stays = λ other. absurd (other refl);
     sink_stays = λ other. refl;
-    bad_script = λ other bytes fault named given found. cc;
+    script_first = tt;
     unpainted = λ idle. refl;
     unflushed = λ early. HasPut-nothing before.sink;
     room = refl;
@@ -167,13 +165,12 @@ module _ (action : BytesAction) (name : List ℕ) (before : Outside) where
       shelf_stays = λ other. shelf_stays other ∙ selected;
       sink_stays = sink_stays;
       shelf = record {
-        script_first = λ other bytes named holds stops. cc;
         missed = λ there scripts. keeps.missed ∙ selects.missed_stays there;
         selects = λ touched. inl page_or_none;
         files = KeepsFiles-more before.shelf mid after.shelf selects.keeps keeps.files;
         faults = omega (arith, selected, keeps.faults);
       };
-      bad_script = λ other bytes fault named given found. cc;
+      script_first = tt;
       unpainted = λ idle. same;
       unflushed = put_unless status before.sink after.sink puts;
       room = room_kept status before.sink after.sink puts;
@@ -218,9 +215,7 @@ module _ (action : BytesAction) (name : List ℕ) (before : Outside) where
       refusals = refl;
       readable = ends.read;
       can_end = ends.can_end;
-      good = first_fault-none;
       page_not_too_long = ends.takes.few;
-      script_not_too_long = omega arith;
       taken = λ other named. (ends.takes.taken, selects_page other named);
     }
       where
@@ -249,8 +244,6 @@ module _ (action : BytesAction) (name : List ℕ) (before : Outside) where
           page_is = λ given gives. same_Some page given (sym is ∙ left_of_given given gives);
           script = [];
           script_is = refl;
-          good = first_fault-none;
-          script_not_too_long = omega arith;
           cut = inl (cut_of page (take size page) (drop size page) (take-append-drop size page) cut);
           front = λ blank. cut_front (text_event (converted action page) ∷ []) (output before) (output after)
               (cut_of page (take size page) (drop size page) (take-append-drop size page) cut);
@@ -270,8 +263,6 @@ module _ (action : BytesAction) (name : List ℕ) (before : Outside) where
           page_is = λ given gives. absurd (none-some given (sym is ∙ left_of_given given gives));
           script = [];
           script_is = refl;
-          good = first_fault-none;
-          script_not_too_long = omega arith;
           cut = inl (cut_of ends.bytes (take size ends.bytes) (drop size ends.bytes)
               (take-append-drop size ends.bytes) ends.cut);
           front = λ blank. cut_front (text_event (converted action ends.bytes) ∷ []) (output before) (output after)
@@ -333,9 +324,8 @@ module _ (action : BytesAction) (name : List ℕ) (before : Outside) where
         runs_put statuses.ReadFault ends.bytes ends.puts (λ other. absurd (other refl)) (record {
           read_fault = subst (λ n. Rose n after.shelf.faults) selected ends.takes.cause;
           unended = ends.takes.unended;
-          name = name;
-          named = refl;
           which = inl (record {
+            name = name;
             first = first_reported after.shelf.taken ends.bytes (sym ends.taken) ends.known ends.puts;
             readable = ends.read;
             few = ends.takes.few;
@@ -358,8 +348,6 @@ module _ (action : BytesAction) (name : List ℕ) (before : Outside) where
             page_is = λ given gives. ends.takes.known given (left_of_given given gives);
             script = [];
             script_is = refl;
-            good = first_fault-none;
-            script_not_too_long = omega arith;
             cut = either_with (text_event (converted action ends.bytes) ∷ []) (output before) (output after)
                 ends.read ends.can_end (by_put ends.bytes ends.cut);
             front = λ blank. either_front (text_event (converted action ends.bytes) ∷ []) (output before) (output after)

@@ -16,7 +16,7 @@ use Rattle.cept_editor.specs.Stepping.{event_from, nothing_event, edit_events, l
 use Rattle.cept_editor.proofs.Laws.{kept-none, kept-more, remaining-none}
 use Rattle.cept_run.specs.declared.words.ReportOptions.{ReportOptions}
 use Rattle.cept_run.specs.Events.{history, item_events, events_of_line, kept_of, script_events, edited_events}
-use Rattle.cept_run.specs.Events.{Sequel, Edits, Figures, nothing_more, drawing_commands, sequel_events, remaining_after}
+use Rattle.cept_run.specs.Events.{Sequel, NoSequel, Edits, Figures, drawing_commands, sequel_events, remaining_after}
 use Rattle.cept_run.proofs.PaintedItems.{AreChained, chained-append, item_events-chained}
 
 -- ---- kept edits
@@ -100,10 +100,8 @@ unfolding script_events
 script_events-none listed page = refl
 
 pub edited_events-none : (options : ReportOptions) (items : List Item)
-    → edited_events options items nothing_more ≡ item_events options items
-edited_events-none options items =
-    ap (λ (es : List Event). item_events options items ++ es) (script_events-none options.edits_listed (history options items))
-    ∙ append-nil (item_events options items)
+    → edited_events options items NoSequel ≡ item_events options items
+edited_events-none options items = append-nil (item_events options items)
 
 -- ---- what they lead to
 
@@ -197,6 +195,8 @@ script_events-chained listed page lines =
 
 sequel_events-chained : (listed : Bool) (page : List Command) (sequel : Sequel)
     → AreChained page (sequel_events listed page sequel) (remaining_after page sequel)
+unfolding AreChained
+sequel_events-chained listed page NoSequel = refl
 sequel_events-chained listed page (Edits lines) = script_events-chained listed page lines
 sequel_events-chained listed page (Figures figures) = edit_chained false 0 page (drawing_commands page figures)
 

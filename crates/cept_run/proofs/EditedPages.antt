@@ -1,13 +1,13 @@
 -- What stands after a page and the edits of a script or a drawing, if one was asked for.
 use Rattle.std.proofs.Common.{◌≡◌, ℕ, Bool, true, false, cond, List, []}
-use Rattle.std.proofs.Common.{Option, Some, None, Result, Ok, Err, refl, sym, ◌∙◌, ap, subst}
+use Rattle.std.proofs.Common.{Some, None, Result, Ok, Err, refl, sym, ◌∙◌, ap, subst}
 use Rattle.cept_codes.specs.declared.command.Command.{Command}
 use Rattle.cept_codes.specs.declared.item.Item.{Item}
 use Rattle.cept_editor.specs.Events.{Event}
-use Rattle.cept_editor.specs.Kept.{none_kept, remaining, EditorState, StandsAfter}
+use Rattle.cept_editor.specs.Kept.{none_kept, EditorState, StandsAfter}
 use Rattle.cept_editor.specs.Made.{Output, output_of, AreMade, AreCutOff}
 use Rattle.cept_editor.specs.Script.{EditLine}
-use Rattle.cept_editor.proofs.Laws.{AreMade-append, AreCutOff-after, remaining-none, StandsAfter-start}
+use Rattle.cept_editor.proofs.Laws.{AreMade-append, AreCutOff-after, StandsAfter-start}
 use Rattle.cept_outside.specs.SinkState.{SinkState, Gains}
 use Rattle.cept_outside.proofs.Laws.{Gains-nil}
 use Rattle.cept_plot.specs.declared.figure.Figure.{Figure}
@@ -16,11 +16,11 @@ use Rattle.cept_profile.specs.Valid.{AllValid}
 use Rattle.cept_run.specs.declared.target.Target.TheVariants as targets
 use Rattle.cept_repaint.specs.GlassState.{GlassState}
 use Rattle.cept_run.specs.Events.{history, item_events, script_events, edited_events}
-use Rattle.cept_run.specs.Events.{Sequel, Edits, Figures, nothing_more, sequel_events, remaining_after}
-use Rattle.cept_run.specs.Reporting.{Plan, sequel_if_any, sequel_of, ReporterState, painted_target, target_at, screen_of}
+use Rattle.cept_run.specs.Events.{Sequel, NoSequel, Edits, Figures, sequel_events, remaining_after}
+use Rattle.cept_run.specs.Reporting.{Plan, sequel_of, ReporterState, painted_target, target_at, screen_of}
 use Rattle.cept_run.specs.Reporting.{HasReported, HasMadeLines, MakesLines, remaining_at_end, HasEdited, EditsOn, HasDrawn, Draws}
 use Rattle.cept_run.specs.Words.{is_painted}
-use Rattle.cept_run.proofs.EditedLines.{edited_events-none, kept_of-none}
+use Rattle.cept_run.proofs.EditedLines.{edited_events-none}
 use Rattle.cept_run.proofs.ReportedItems.{screen_painted, editor_painted, drawing_painted, not_idle}
 use Rattle.cept_run.proofs.SilentEvents.{silent_drawing}
 
@@ -34,15 +34,15 @@ module _ (plan : Plan) (h : List Command) where
       by_flag true f = absurd (not_idle plan.sequel h f)
       by_flag false f = refl
 
-  unasked : targets.Nothing ≡ target_at plan h → sequel_of plan ≡ nothing_more
-  unasked e = ap (λ b. cond b (sequel_if_any plan.sequel) nothing_more) (nothing_asked e)
+  unasked : targets.Nothing ≡ target_at plan h → sequel_of plan ≡ NoSequel
+  unasked e = ap (λ b. cond b (plan.sequel) NoSequel) (nothing_asked e)
 
-  alone : (screen : State) → targets.Screen screen ≡ target_at plan h → sequel_of plan ≡ nothing_more
+  alone : (screen : State) → targets.Screen screen ≡ target_at plan h → sequel_of plan ≡ NoSequel
   alone screen e = by_flag (is_painted plan.options.way) e
     where
       by_flag : (b : Bool) → targets.Screen screen ≡ cond b (painted_target plan.sequel h) targets.Nothing
-          → cond b (sequel_if_any plan.sequel) nothing_more ≡ nothing_more
-      by_flag true f = ap sequel_if_any (screen_painted plan.sequel screen h f).0
+          → cond b (plan.sequel) NoSequel ≡ NoSequel
+      by_flag true f = (screen_painted plan.sequel screen h f).0
       by_flag false f = refl
 
   with_editor : (editor : EditorState) (lines : List EditLine) → targets.Editor editor lines ≡ target_at plan h
@@ -56,7 +56,7 @@ module _ (plan : Plan) (h : List Command) where
           × (editor ≡ record { screen = state h; past = []; future = [] })
       by_flag true is f =
           let there = editor_painted plan.sequel editor lines h f in
-          (is, ap (λ c. cond c (sequel_if_any plan.sequel) nothing_more) is ∙ ap sequel_if_any there.0, there.1)
+          (is, ap (λ c. cond c (plan.sequel) NoSequel) is ∙ there.0, there.1)
       by_flag false is f = cc
 
   with_drawing : (screen : State) (figures : List Figure) → targets.Drawing screen figures ≡ target_at plan h
@@ -68,16 +68,16 @@ module _ (plan : Plan) (h : List Command) where
           → (is_painted plan.options.way ≡ true) × (sequel_of plan ≡ Figures figures) × (screen ≡ state h)
       by_flag true is f =
           let there = drawing_painted plan.sequel screen figures h f in
-          (is, ap (λ c. cond c (sequel_if_any plan.sequel) nothing_more) is ∙ ap sequel_if_any there.0, there.1)
+          (is, ap (λ c. cond c (plan.sequel) NoSequel) is ∙ there.0, there.1)
       by_flag false is f = cc
 
   screen_there : screen_of (target_at plan h) ≡ cond (is_painted plan.options.way) (Some (state h)) None
   screen_there = by_flag (is_painted plan.options.way)
     where
-      on_painted : (sequel : Option Sequel) → screen_of (painted_target sequel h) ≡ Some (state h)
-      on_painted None = refl
-      on_painted (Some (Edits lines)) = refl
-      on_painted (Some (Figures figures)) = refl
+      on_painted : (sequel : Sequel) → screen_of (painted_target sequel h) ≡ Some (state h)
+      on_painted NoSequel = refl
+      on_painted (Edits lines) = refl
+      on_painted (Figures figures) = refl
 
       by_flag : (b : Bool) → screen_of (cond b (painted_target plan.sequel h) targets.Nothing) ≡ cond b (Some (state h)) None
       by_flag true = on_painted plan.sequel
@@ -86,12 +86,12 @@ module _ (plan : Plan) (h : List Command) where
 -- ---- no edits are made
 
 pub unedited : (plan : Plan) (reporter : ReporterState) (reported : List Item) (start now : Output)
-    → sequel_of plan ≡ nothing_more → HasReported plan reporter reported start now
+    → sequel_of plan ≡ NoSequel → HasReported plan reporter reported start now
     → HasEdited plan reporter reported start now
 unedited plan reporter reported start now none has =
     let h = history plan.options reported in
     let same : h ≡ remaining_at_end plan reported =
-    sym (ap (remaining_after h) none ∙ ap (remaining h) kept_of-none ∙ remaining-none h) in
+    sym (ap (remaining_after h) none) in
     record {
       stands = record {
         options_are = has.stands.options_are;

@@ -7,10 +7,9 @@ use Rattle.cept_codes.specs.declared.command.Command.{Command}
 use Rattle.cept_codes.specs.declared.item.Item.{Item}
 use Rattle.cept_editor.specs.Events.{Event, report}
 use Rattle.cept_editor.specs.Made.{AreStill, output_of, AreMade, AreCutOff}
-use Rattle.cept_words.specs.Faults.{Fault}
 use Rattle.cept_editor.proofs.Laws.{AreCutOff-longer, cut_untouched}
 use Rattle.cept_outside.specs.Causes.{Rose, HasCause}
-use Rattle.cept_outside.specs.ShelfState.{ShelfState, Holds, Selects, IsSound}
+use Rattle.cept_outside.specs.ShelfState.{ShelfState, Selects, IsSound}
 use Rattle.cept_outside.specs.SinkState.{SinkState}
 use Rattle.cept_outside.proofs.Laws.{HasPut-nothing}
 use Rattle.cept_parser.specs.Items.{items, closed_items}
@@ -23,14 +22,14 @@ use Rattle.cept_run.specs.declared.page.Stop.TheVariants as stops
 use Rattle.cept_run.specs.declared.run.Status.{Status}
 use Rattle.cept_run.specs.declared.run.Status.TheVariants as statuses
 use Rattle.cept_run.specs.declared.words.ReportOptions.{ReportOptions}
-use Rattle.cept_run.specs.Course.{Course, Source, File, Gives, HasBytes, SelectsNoOther, Grammar}
-use Rattle.cept_run.specs.Course.{first_fault_in, sequel_in, report_course}
-use Rattle.cept_run.specs.Events.{history, item_events, text_at_end, edited_events, sequel_events, Sequel, nothing_more}
+use Rattle.cept_run.specs.Course.{Course, Source, File, Gives, HasBytes, SelectsNoOther, first_fault_in, sequel_in, report_course}
+use Rattle.cept_run.specs.Course.{ScriptSource, NoScript, ScriptFile, IsReadFirst}
+use Rattle.cept_run.specs.Events.{history, item_events, text_at_end, edited_events, sequel_events, Sequel, NoSequel}
 use Rattle.cept_run.specs.Events.{remaining_after, has_refusal}
 use Rattle.cept_run.specs.Outside.{Outside, outside_of, output, PutsWhole, PutsFront}
 use Rattle.cept_run.specs.Page.{PageUnput, PageStops, PutsEnd, KeepsShelf}
-use Rattle.cept_run.specs.Reporting.{Plan, sequel_if_any, sequel_of, remaining_at_end}
-use Rattle.cept_run.specs.Run.{Restores, EndsWhole, IsReportCut, Ends, ReportsFirst}
+use Rattle.cept_run.specs.Reporting.{Plan, sequel_of, remaining_at_end}
+use Rattle.cept_run.specs.Run.{Restores, EndsWhole, IsReportCut, Ends, ReportsFirst, IsScriptFirst}
 use Rattle.cept_run.specs.Run.{RunsCourse, status_of, status_at_end}
 use Rattle.cept_run.specs.Taking.{AreLeft, TakesWhole}
 use Rattle.cept_run.specs.inside.ScriptReading.{ScriptKnown}
@@ -49,37 +48,29 @@ use Rattle.cept_run.proofs.StoppedScripts.{named_so_long, name_in}
 
 -- ---- the script was read
 
-module _ (plan : Plan) (grammar : Grammar) (name : List ℕ) (script : Source) (told : List ℕ) (before : Outside)
-    (ready : ShelfState) (known : ScriptKnown grammar name script told before.shelf ready) where
+-- a script that was read is short, and no line of it is outside the grammar
+first_by : (page : Source) (script : ScriptSource) (told : List ℕ) (before after : Outside) (status : Status)
+    → IsReadFirst before.shelf script told → IsScriptFirst script page before after status
+first_by page NoScript told before after status is = tt
+first_by page (ScriptFile grammar name) told before after status is = record {
+  stops = λ bytes holds why. absurd (by_stop bytes (is.0 bytes (inl holds)) why);
+  bad = λ bytes fault given found.
+      absurd (none-some fault (sym is.1 ∙ ap (first_fault_in grammar) (is.0 bytes given) ∙ found));
+}
+  where
+    by_stop : (bytes : List ℕ) → told ≡ bytes → (2 ^ 20 < length bytes) ⊎ IsSome (first_fault_in grammar bytes) → ⊥
+    by_stop bytes same (inl long) = absurd (omega (arith, long, is.2, ap length same))
+    by_stop bytes same (inr some) =
+        let no : false ≡ true = subst IsSome (ap (first_fault_in grammar) (sym same) ∙ is.1) some in
+        cc
+
+module _ (plan : Plan) (name : List ℕ) (script : ScriptSource) (told : List ℕ) (before : Outside) (ready : ShelfState)
+    (known : ScriptKnown script told before.shelf ready) where
   abbrev options : ReportOptions
   options = plan.options
 
   abbrev course : Course
-  course = report_course options grammar (File name) script
-
-  -- the bytes of the script, where the shelf tells them
-  told_are : (other bytes : List ℕ) → script ≡ File other → Gives before.shelf other bytes → told ≡ bytes
-  told_are other bytes named = subst (λ (s : Source). HasBytes before.shelf s told) named known.has bytes
-
-  -- no line of it is outside the grammar
-  no_fault : (other bytes : List ℕ) (fault : Fault) → script ≡ File other → Gives before.shelf other bytes
-      → first_fault_in grammar bytes ≡ Some fault → ⊥
-  no_fault other bytes fault named given found =
-      none-some fault (sym known.good ∙ ap (first_fault_in grammar) (told_are other bytes named given) ∙ found)
-
-  -- so it doesn't stop the run
-  no_stopper : (other bytes : List ℕ) → script ≡ File other → Holds before.shelf other bytes
-      → (2 ^ 20 < length bytes) ⊎ IsSome (first_fault_in grammar bytes) → ⊥
-  no_stopper other bytes named holds = by_stop
-    where
-      same : told ≡ bytes
-      same = told_are other bytes named (inl holds)
-
-      by_stop : (2 ^ 20 < length bytes) ⊎ IsSome (first_fault_in grammar bytes) → ⊥
-      by_stop (inl long) = absurd (omega (arith, long, known.few, ap length same))
-      by_stop (inr some) =
-          let no : false ≡ true = subst IsSome (ap (first_fault_in grammar) (sym same) ∙ known.good) some in
-          cc
+  course = report_course options (File name) script
 
   -- ---- the page couldn't be selected
 
@@ -90,15 +81,14 @@ module _ (plan : Plan) (grammar : Grammar) (name : List ℕ) (script : Source) (
     ends = record {
       read_fault = subst (λ n. Rose n shelf.faults) known.stays cause.failed;
       unended = selects.ended;
-      name = name;
-      named = refl;
       which = inl (record {
+        name = name;
         first = record {
           named = refl;
           front = [];
           counted = sym selects.taken;
           front_is = λ page given. ap (λ k. take k page) (sym selects.taken);
-          reports = reports_nothing options grammar (File name) script before (outside_of shelf before.sink before.glass) refl;
+          reports = reports_nothing options (File name) script before (outside_of shelf before.sink before.glass) refl;
           selected = λ chosen is. inl (selects.failed.chosen chosen is);
         };
         readable = refl;
@@ -107,7 +97,6 @@ module _ (plan : Plan) (grammar : Grammar) (name : List ℕ) (script : Source) (
       });
     };
     shelf = record {
-      script_first = λ other bytes named holds stops. absurd (no_stopper other bytes named holds stops);
       missed = λ there scripts. selects.missed_stays (subst IsSome (sym (under_same before.shelf ready name
           known.files)) there) ∙ known.missed scripts;
       selects = λ touched. inl (λ chosen is. inl (selects.failed.chosen chosen is));
@@ -116,7 +105,8 @@ module _ (plan : Plan) (grammar : Grammar) (name : List ℕ) (script : Source) (
     };
     shelf_stays = λ other. absurd (other refl);
     sink_stays = λ other. refl;
-    bad_script = λ other bytes fault named given found. absurd (no_fault other bytes fault named given found);
+    script_first = first_by (File name) script told before (outside_of shelf before.sink before.glass) statuses.ReadFault
+        known.is;
     unpainted = λ idle. refl;
     unflushed = λ early. HasPut-nothing before.sink;
     room = refl;
@@ -153,7 +143,6 @@ module _ (plan : Plan) (grammar : Grammar) (name : List ℕ) (script : Source) (
       shelf_stays = λ other. shelf_stays other ∙ same_faults;
       sink_stays = sink_stays;
       shelf = record {
-        script_first = λ other bytes named holds stops. absurd (no_stopper other bytes named holds stops);
         missed = λ there scripts. keeps.missed ∙ selects.missed_stays (subst IsSome (sym (under_same before.shelf ready
             name known.files)) there) ∙ known.missed scripts;
         selects = λ touched. inl page_or_none;
@@ -161,7 +150,7 @@ module _ (plan : Plan) (grammar : Grammar) (name : List ℕ) (script : Source) (
             (KeepsFiles-more ready mid after.shelf selects.keeps keeps.files);
         faults = omega (arith, same_faults, keeps.faults);
       };
-      bad_script = λ other bytes fault named given found. absurd (no_fault other bytes fault named given found);
+      script_first = first_by (File name) script told before after status known.is;
       unpainted = idle;
       unflushed = put_unless status before.sink after.sink puts;
       room = room_kept status before.sink after.sink puts;
@@ -188,19 +177,19 @@ module _ (plan : Plan) (grammar : Grammar) (name : List ℕ) (script : Source) (
       front = front;
       counted = counted;
       front_is = λ page given. are page (left_of_given page given);
-      reports = reports_front options grammar (File name) script front before after made;
+      reports = reports_front options (File name) script front before after made;
       selected = page_or_none;
     }
 
     -- the events of some items are cut off of those of the whole run, whatever the glass shows at its end
     cut_in_run : (shown : List (List Look)) (page : List ℕ) (front others : List Item)
         → closed_items page ≡ front ++ others → AreCutOff (item_events options front) (output before) (output after)
-        → AreCutOff (the_run options grammar page told shown) (output before) (output after)
+        → AreCutOff (the_run options script page told shown) (output before) (output after)
     cut_in_run shown page front others is off =
-        let end = the_end options grammar page told shown ∷ [] in
-        let script_part = sequel_events options.edits_listed (history options (closed_items page)) (sequel_in grammar told) in
+        let end = the_end options script page told shown ∷ [] in
+        let script_part = sequel_events options.edits_listed (history options (closed_items page)) (sequel_in script told) in
         AreCutOff-longer (item_events options front) (events_after options front others ++ (script_part ++ end))
-        (the_run options grammar page told shown) (output before) (output after)
+        (the_run options script page told shown) (output before) (output after)
         (append_assoc (item_events options (closed_items page)) script_part end
         ∙ ap (λ (l : List Item). item_events options l ++ (script_part ++ end)) is
         ∙ ap (λ (es : List Event). es ++ (script_part ++ end)) (item_events-append options front others)
@@ -208,14 +197,14 @@ module _ (plan : Plan) (grammar : Grammar) (name : List ℕ) (script : Source) (
 
     -- the events of the run where the glass shows what remains
     abbrev meant_run : List ℕ → List Event
-    meant_run page = the_run options grammar page told (grid (all options grammar page told))
+    meant_run page = the_run options script page told (grid (all options script page told))
 
     -- so a front of the report was put
     front_in_run : (page : List ℕ) (front others : List Item) → closed_items page ≡ front ++ others
         → AreCutOff (item_events options front) (output before) (output after)
         → PutsFront (report (meant_run page)) before.sink after.sink
     front_in_run page front others is off = cut_front (meant_run page) (output before) (output after)
-        (cut_in_run (grid (all options grammar page told)) page front others is off)
+        (cut_in_run (grid (all options script page told)) page front others is off)
 
     -- the sink failed at an item
     runs_cut : (reached : List Item) → AreCutOff (item_events options reached) (output before) (output after)
@@ -237,9 +226,7 @@ module _ (plan : Plan) (grammar : Grammar) (name : List ℕ) (script : Source) (
           page = page;
           page_is = λ given gives. same_Some page given (sym is ∙ left_of_given given gives);
           script = told;
-          script_is = known.has;
-          good = known.good;
-          script_not_too_long = known.few;
+          script_is = known.is;
           cut = inl (cut_in_run after.glass.grid page ends.front there.0 there.1 ends.cut);
           front = λ blank. front_in_run page ends.front there.0 there.1 ends.cut;
           taken = λ other named. (
@@ -257,9 +244,7 @@ module _ (plan : Plan) (grammar : Grammar) (name : List ℕ) (script : Source) (
       page = ends.bytes;
       page_is = λ given gives. absurd (none-some given (sym is ∙ left_of_given given gives));
       script = told;
-      script_is = known.has;
-      good = known.good;
-      script_not_too_long = known.few;
+      script_is = known.is;
       cut = inl (cut_in_run after.glass.grid ends.bytes ends.front ends.are.0 ends.are.1 ends.cut);
       front = λ blank. front_in_run ends.bytes ends.front ends.are.0 ends.are.1 ends.cut;
       taken = λ other named. (
@@ -275,8 +260,8 @@ module _ (plan : Plan) (grammar : Grammar) (name : List ℕ) (script : Source) (
 
     -- of a page that was read to its end
     whole_cut : (bytes : List ℕ) → TakesWhole (AreLeft mid) (2 ^ 24) bytes mid after.shelf
-        → AreCutOff (the_run options grammar bytes told after.glass.grid) (output before) (output after)
-        ⊎ (AreMade (the_run options grammar bytes told after.glass.grid) (output before) (output after)
+        → AreCutOff (the_run options script bytes told after.glass.grid) (output before) (output after)
+        ⊎ (AreMade (the_run options script bytes told after.glass.grid) (output before) (output after)
         × (before.sink.always_flushes ≡ false))
         → (before.glass.grid ≡ grid [] → PutsFront (report (meant_run bytes)) before.sink after.sink)
         → IsReportCut course before after
@@ -284,10 +269,8 @@ module _ (plan : Plan) (grammar : Grammar) (name : List ℕ) (script : Source) (
       page = bytes;
       page_is = λ given gives. takes.known given (left_of_given given gives);
       script = told;
-      script_is = known.has;
-      good = known.good;
-      script_not_too_long = known.few;
-      cut = either_with (the_run options grammar bytes told after.glass.grid) (output before) (output after) refl refl cut;
+      script_is = known.is;
+      cut = either_with (the_run options script bytes told after.glass.grid) (output before) (output after) refl refl cut;
       front = front;
       taken = λ other named. (selects_page other named, inl (takes.taken, takes.few));
     }
@@ -300,9 +283,8 @@ module _ (plan : Plan) (grammar : Grammar) (name : List ℕ) (script : Source) (
         (λ other. absurd (other refl)) (record {
           read_fault = subst (λ n. Rose n after.shelf.faults) same_faults ends.takes.cause;
           unended = ends.takes.unended;
-          name = name;
-          named = refl;
           which = inl (record {
+            name = name;
             first = first_reported after.shelf.taken ends.bytes (sym ends.taken) ends.known ends.made;
             readable = refl;
             few = ends.takes.few;
@@ -334,18 +316,18 @@ module _ (plan : Plan) (grammar : Grammar) (name : List ℕ) (script : Source) (
     -- ---- the page was read to its end
 
     module _ (bytes : List ℕ) (takes : TakesWhole (AreLeft mid) (2 ^ 24) bytes mid after.shelf)
-        (lines_are : sequel_of plan ≡ sequel_in grammar told) where
+        (lines_are : sequel_of plan ≡ sequel_in script told) where
       abbrev shown_run : List Event
-      shown_run = the_run options grammar bytes told after.glass.grid
+      shown_run = the_run options script bytes told after.glass.grid
 
       page_is : HasBytes before.shelf (File name) bytes
       page_is given gives = takes.known given (left_of_given given gives)
 
-      unscripted : is_painted options.way ≡ false → sequel_of plan ≡ nothing_more
-      unscripted idle = ap (λ b. cond b (sequel_if_any plan.sequel) nothing_more) idle
+      unscripted : is_painted options.way ≡ false → sequel_of plan ≡ NoSequel
+      unscripted idle = ap (λ b. cond b (plan.sequel) NoSequel) idle
 
       -- without painting nothing is changed
-      still_edited : is_painted options.way ≡ false → AreStill (edited options grammar bytes told)
+      still_edited : is_painted options.way ≡ false → AreStill (edited options script bytes told)
       still_edited idle =
           subst (λ (s : Sequel). AreStill (edited_events options (closed_items bytes) s)) lines_are
           (subst (λ (s : Sequel). AreStill (edited_events options (closed_items bytes) s)) (sym (unscripted idle))
@@ -361,29 +343,29 @@ module _ (plan : Plan) (grammar : Grammar) (name : List ℕ) (script : Source) (
           subst (λ (s : Stop). RunsCourse course before after (status_of s)) (sym is)
           (runs_course statuses.WriteFault (record {
             write_fault = off.cause;
-            cut = inl (whole_cut bytes takes (inl (AreCutOff-longer (edited options grammar bytes told)
-                (the_end options grammar bytes told after.glass.grid ∷ []) shown_run (output before) (output after) refl off))
+            cut = inl (whole_cut bytes takes (inl (AreCutOff-longer (edited options script bytes told)
+                (the_end options script bytes told after.glass.grid ∷ []) shown_run (output before) (output after) refl off))
                 (λ blank. cut_front (meant_run bytes) (output before) (output after)
-                (AreCutOff-longer (edited options grammar bytes told)
-                (the_end options grammar bytes told (grid (all options grammar bytes told)) ∷ []) (meant_run bytes)
+                (AreCutOff-longer (edited options script bytes told)
+                (the_end options script bytes told (grid (all options script bytes told)) ∷ []) (meant_run bytes)
                 (output before) (output after) refl off)));
-          }) (λ other. takes.stays) (λ other. absurd (other refl)) (λ idle. cut_untouched (edited options grammar bytes told) (output before) (output after) (still_edited idle) off)
-          (inl (put_cut (edited options grammar bytes told) (output before) (output after) off)) off.later)
+          }) (λ other. takes.stays) (λ other. absurd (other refl)) (λ idle. cut_untouched (edited options script bytes told) (output before) (output after) (still_edited idle) off)
+          (inl (put_cut (edited options script bytes told) (output before) (output after) off)) off.later)
 
       module _ (sink : SinkState)
           (made_all : AreMade (edited_events options (closed_items bytes) (sequel_of plan)) (output before)
           (output_of sink after.glass)) (sink_stays : sink.faults ≡ before.sink.faults)
           (restores : Restores (page_text (core (remaining_at_end plan (closed_items bytes))))
           (remaining_at_end plan (closed_items bytes))) where
-        all_is : remaining_at_end plan (closed_items bytes) ≡ all options grammar bytes told
+        all_is : remaining_at_end plan (closed_items bytes) ≡ all options script bytes told
         all_is = ap (remaining_after (history options (closed_items bytes))) lines_are
 
-        made : AreMade (edited options grammar bytes told) (output before) (output_of sink after.glass)
+        made : AreMade (edited options script bytes told) (output before) (output_of sink after.glass)
         made = subst (λ (s : Sequel). AreMade (edited_events options (closed_items bytes) s) (output before)
             (output_of sink after.glass)) lines_are made_all
 
         abbrev end_put : List ℕ
-        end_put = text_at_end options after.glass.grid bytes (all options grammar bytes told)
+        end_put = text_at_end options after.glass.grid bytes (all options script bytes told)
 
         idle_run : is_painted options.way ≡ false → after.glass ≡ before.glass
         idle_run idle = made.painted.untouched (still_edited idle)
@@ -394,15 +376,13 @@ module _ (plan : Plan) (grammar : Grammar) (name : List ℕ) (script : Source) (
           page = bytes;
           page_is = page_is;
           script = told;
-          script_is = known.has;
-          reports = whole_report options grammar bytes told before after sink made sink_stays (File name) script
+          script_is = known.is;
+          reports = whole_report options script bytes told before after sink made sink_stays (File name)
               (subst (λ (h : List Command). Restores (page_text (core h)) h) all_is restores) puts;
           refusals = is;
           readable = refl;
           can_end = refl;
-          good = known.good;
           page_not_too_long = takes.few;
-          script_not_too_long = known.few;
           taken = λ other named. (takes.taken, selects_page other named);
         }
 
@@ -416,10 +396,10 @@ module _ (plan : Plan) (grammar : Grammar) (name : List ℕ) (script : Source) (
             subst (λ (s : Stop). RunsCourse course before after (status_of s)) (sym puts.1)
             (runs_course statuses.WriteFault (record {
               write_fault = subst (λ n. Rose n after.sink.faults) sink_stays puts.0.cause;
-              cut = inl (whole_cut bytes takes (cut_at_end options grammar bytes told before after sink made sink_stays puts.0)
-                  (front_at_end options grammar bytes told before after sink made sink_stays puts.0));
+              cut = inl (whole_cut bytes takes (cut_at_end options script bytes told before after sink made sink_stays puts.0)
+                  (front_at_end options script bytes told before after sink made sink_stays puts.0));
             }) (λ other. takes.stays) (λ other. absurd (other refl)) idle_run
-            (inl (put_to_end options grammar bytes told before after sink made sink_stays puts.0))
+            (inl (put_to_end options script bytes told before after sink made sink_stays puts.0))
             (omega (arith, puts.0.later, sink_stays)))
 
         pub ends_put : (result : Result Bool Stop)

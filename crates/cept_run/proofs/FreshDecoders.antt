@@ -1,5 +1,5 @@
 -- The plan of a decoder before the first byte.
-use Rattle.std.proofs.Common.{◌≡◌, Bool, true, false, cond, List, [], Option, Some, None, refl, sym, ◌∙◌, ap, subst}
+use Rattle.std.proofs.Common.{◌≡◌, Bool, true, false, cond, List, [], None, refl, sym, ◌∙◌, ap, subst}
 use Rattle.cept_editor.specs.Kept.{EditorState}
 use Rattle.cept_editor.specs.Made.{Output}
 use Rattle.cept_editor.specs.Script.{EditLine}
@@ -12,38 +12,38 @@ use Rattle.cept_run.specs.declared.words.PageAction.{PageAction}
 use Rattle.cept_run.specs.declared.words.PageAction.TheVariants as pages
 use Rattle.cept_run.specs.declared.words.ScriptAction.{ScriptAction}
 use Rattle.cept_run.specs.declared.words.ScriptAction.TheVariants as scripts
-use Rattle.cept_run.specs.Events.{Sequel, Edits, Figures, nothing_more}
-use Rattle.cept_run.specs.Reporting.{Plan, sequel_if_any, sequel_of, ReporterState, painted_target, target_at, sequel_at, plan_in}
+use Rattle.cept_run.specs.Events.{Sequel, NoSequel, Edits, Figures}
+use Rattle.cept_run.specs.Reporting.{Plan, sequel_of, ReporterState, painted_target, target_at, sequel_at, plan_in}
 use Rattle.cept_run.specs.Reporting.{DecoderState, HasRead, HasBlink}
 use Rattle.cept_run.specs.Words.{options_of_page, options_of_script, is_painted}
 
 -- without a script
 abbrev pub alone : ReportOptions → Plan
-alone options = record { options = options; sequel = None }
+alone options = record { options = options; sequel = NoSequel }
 
 -- with one, or with a drawing, that says that this is done
 abbrev pub followed : ReportOptions → Sequel → Plan
-followed options sequel = record { options = options; sequel = Some sequel }
+followed options sequel = record { options = options; sequel = sequel }
 
-plan_is : (r : ReporterState) (options : ReportOptions) (sequel : Option Sequel) → r.options ≡ options
+plan_is : (r : ReporterState) (options : ReportOptions) (sequel : Sequel) → r.options ≡ options
     → sequel_at r.target ≡ sequel → plan_in r ≡ record { options = options; sequel = sequel }
-plan_is r options sequel p q = λ i. record { options = p i; sequel = q i }
+plan_is r options next p q = λ i. record { options = p i; sequel = q i }
 
 -- ---- a page alone
 
 pub plan_alone : (r : ReporterState) (options : ReportOptions) (target : Target) → r.options ≡ options → r.target ≡ target
     → target ≡ target_at (alone options) [] → plan_in r ≡ alone options
 plan_alone r options target same at is =
-    plan_is r options None same (ap sequel_at (at ∙ is) ∙ by_flag (is_painted options.way))
+    plan_is r options NoSequel same (ap sequel_at (at ∙ is) ∙ by_flag (is_painted options.way))
   where
-    by_flag : (b : Bool) → sequel_at (cond b (painted_target None []) targets.Nothing) ≡ None
+    by_flag : (b : Bool) → sequel_at (cond b (painted_target NoSequel []) targets.Nothing) ≡ NoSequel
     by_flag true = refl
     by_flag false = refl
 
-pub nothing_alone : (options : ReportOptions) → sequel_of (alone options) ≡ nothing_more
+pub nothing_alone : (options : ReportOptions) → sequel_of (alone options) ≡ NoSequel
 nothing_alone options = by_flag (is_painted options.way)
   where
-    by_flag : (b : Bool) → cond b (sequel_if_any None) nothing_more ≡ nothing_more
+    by_flag : (b : Bool) → cond b (NoSequel) NoSequel ≡ NoSequel
     by_flag true = refl
     by_flag false = refl
 
@@ -72,7 +72,7 @@ pub target_edited : (options : ReportOptions) (editor : EditorState) (lines : Li
     → targets.Editor editor lines ≡ target_at (followed options (Edits lines)) []
 target_edited options editor lines painting is =
     ap (λ (e : EditorState). targets.Editor e lines) is
-    ∙ ap (λ b. cond b (painted_target (Some (Edits lines)) []) targets.Nothing) (sym painting)
+    ∙ ap (λ b. cond b (painted_target (Edits lines) []) targets.Nothing) (sym painting)
 
 -- ---- a page and a drawing
 
@@ -80,17 +80,17 @@ pub target_drawn : (options : ReportOptions) (screen : State) (figures : List Fi
     → targets.Drawing screen figures ≡ target_at (followed options (Figures figures)) []
 target_drawn options screen figures painting is =
     ap (λ (s : State). targets.Drawing s figures) is
-    ∙ ap (λ b. cond b (painted_target (Some (Figures figures)) []) targets.Nothing) (sym painting)
+    ∙ ap (λ b. cond b (painted_target (Figures figures) []) targets.Nothing) (sym painting)
 
 -- ---- a page and what is done after it
 
 pub plan_followed : (r : ReporterState) (options : ReportOptions) (target : Target) (sequel : Sequel) → r.options ≡ options
-    → r.target ≡ target → sequel_at target ≡ Some sequel → plan_in r ≡ followed options sequel
-plan_followed r options target sequel same at is = plan_is r options (Some sequel) same (ap sequel_at at ∙ is)
+    → r.target ≡ target → sequel_at target ≡ sequel → plan_in r ≡ followed options sequel
+plan_followed r options target next same at is = plan_is r options next same (ap sequel_at at ∙ is)
 
 pub sequel_followed : (options : ReportOptions) (sequel : Sequel) → is_painted options.way ≡ true
     → sequel_of (followed options sequel) ≡ sequel
-sequel_followed options sequel painting = ap (λ b. cond b sequel nothing_more) painting
+sequel_followed options next painting = ap (λ b. cond b next NoSequel) painting
 
 -- ---- by its own plan
 

@@ -2,14 +2,14 @@
 use Rattle.std.proofs.Common.{◌≡◌, ◌≢◌, ◌⊎◌, inl, inr, ℕ, ◌^◌, List, [], take, Some, None, refl, sym}
 use Rattle.std.proofs.Common.{◌∙◌, ap, subst}
 use Rattle.cept_outside.specs.ShelfState.{Holds, IsSound}
-use Rattle.cept_outside.specs.SinkState.{SinkState}
-use Rattle.cept_editor.specs.Made.{output_of}
 use Rattle.cept_run.specs.declared.run.Status.{Status}
 use Rattle.cept_run.specs.declared.run.Status.TheVariants as statuses
 use Rattle.cept_run.specs.declared.words.NumberAction.TheVariants as numbers
-use Rattle.cept_run.specs.Course.{Course, File, Scripts, Drawings, SelectsNoOther, course_of}
-use Rattle.cept_run.specs.Outside.{Outside}
-use Rattle.cept_run.specs.Run.{EndsAtReadFault, IsPageTooLong, IsScriptTooLong, ReportsFirst, ReportsFront, Runs, RunsCourse}
+use Rattle.cept_run.specs.Course.{Course, Source, File, Grammar, Scripts, Drawings, ScriptSource, NoScript, ScriptFile}
+use Rattle.cept_run.specs.Course.{SelectsNoOther, course_of}
+use Rattle.cept_run.specs.Outside.{Outside, output}
+use Rattle.cept_run.specs.Run.{EndsAtReadFault, EndsAtScript, IsAtScript, IsPageTooLong, ReportsFirst, ReportsFront, Runs}
+use Rattle.cept_run.specs.Run.{RunsCourse}
 use Rattle.cept_run.specs.Words.{Request, Page, Bytes, Script, Number, Flash, Drawing, request_of, options_of_script, options_to_draw}
 use Rattle.cept_run.proofs.PagesInPieces.{nil_from_length}
 use Rattle.cept_run.proofs.ReportedFronts.{reports_nothing}
@@ -17,36 +17,59 @@ use Rattle.cept_run.proofs.StoppedScripts.{name_in}
 use Rattle.cept_run.proofs.WholeRuns.{selected_at_end, reads_files, first_of}
 
 -- where nothing is put and nothing painted, nothing is reported of a page after a script or a drawing
-nothing_reported : (request : Request) (script : List ℕ) (before after : Outside)
-    → (course_of request).script ≡ File script → after.sink ≡ before.sink → after.glass ≡ before.glass
+nothing_reported : (request : Request) (grammar : Grammar) (script : List ℕ) (before after : Outside)
+    → (course_of request).script ≡ ScriptFile grammar script → output after ≡ output before
     → ReportsFront (course_of request) [] before after
-nothing_reported (Page action page) script before after named sink glass = cc
-nothing_reported (Bytes action page) script before after named sink glass = cc
-nothing_reported (Script action page other) script before after named sink glass =
-    reports_nothing (options_of_script action) Scripts (File page) (File other) before after
-    (ap (λ (s : SinkState). output_of s after.glass) sink ∙ ap (output_of before.sink) glass)
-nothing_reported (Number numbers.Generate number) script before after named sink glass = cc
-nothing_reported (Number numbers.Load number) script before after named sink glass = cc
-nothing_reported (Flash page turns) script before after named sink glass = cc
-nothing_reported (Drawing page drawing) script before after named sink glass =
-    reports_nothing options_to_draw Drawings (File page) (File drawing) before after
-    (ap (λ (s : SinkState). output_of s after.glass) sink ∙ ap (output_of before.sink) glass)
+nothing_reported (Page action page) grammar script before after named same = cc
+nothing_reported (Bytes action page) grammar script before after named same = cc
+nothing_reported (Script action page other) grammar script before after named same =
+    reports_nothing (options_of_script action) (File page) (ScriptFile Scripts other) before after same
+nothing_reported (Number numbers.Generate number) grammar script before after named same = cc
+nothing_reported (Number numbers.Load number) grammar script before after named same = cc
+nothing_reported (Flash page turns) grammar script before after named same = cc
+nothing_reported (Drawing page drawing) grammar script before after named same =
+    reports_nothing options_to_draw (File page) (ScriptFile Drawings drawing) before after same
+
+-- the script at which a run stands
+record AtScript (script : ScriptSource) (page : Source) (before after : Outside) : Type 0 where
+  pub grammar : Grammar
+  pub name : List ℕ
+  pub is : script ≡ ScriptFile grammar name
+  pub at : IsAtScript name page before after
+
+unread_at : (script : ScriptSource) (page : Source) (before after : Outside)
+    → EndsAtScript script page before after statuses.ReadFault → AtScript script page before after
+unread_at NoScript page before after ends = elim ends [ ]
+unread_at (ScriptFile grammar name) page before after ends =
+    record { grammar = grammar; name = name; is = refl; at = ends.0 }
+
+too_long_at : (script : ScriptSource) (page : Source) (before after : Outside)
+    → EndsAtScript script page before after statuses.TooLong → AtScript script page before after
+too_long_at NoScript page before after ends = elim ends [ ]
+too_long_at (ScriptFile grammar name) page before after ends =
+    record { grammar = grammar; name = name; is = refl; at = ends.0 }
 
 module _ (course : Course) (name page : List ℕ) (before after : Outside) (paged : course.page ≡ File name)
     (holds : Holds before.shelf name page) where
   -- the page is selected
   module _ (is : after.shelf.selected ≡ Some (Some name)) where
+    not_at : AtScript course.script course.page before after → ⊥
+    not_at stands =
+        let page_is = stands.at.page_unselected in
+        page_is.2 (is ∙ ap (λ n. Some (Some n)) (name_in name page_is.0 (sym paged ∙ page_is.1)))
+
     unread_front : EndsAtReadFault course before after → ReportsFront course (take after.shelf.taken page) before after
     unread_front ends =
         elim ends.which [
-          | inl unread ↦ first_of course name page before after paged holds ends.name after.shelf.taken unread.first
-          | inr script ↦ absurd (script.1.unselected name paged is)
+          | inl unread ↦ first_of course name page before after paged holds unread.name after.shelf.taken unread.first
+          | inr script ↦ absurd (not_at (unread_at course.script course.page before after script))
         ]
 
-    long_front : IsPageTooLong course before after ⊎ IsScriptTooLong course before after
+    long_front : IsPageTooLong course before after ⊎ EndsAtScript course.script course.page before after statuses.TooLong
         → ReportsFront course (take (2 ^ 24) page) before after
     long_front (inl ends) = first_of course name page before after paged holds ends.name (2 ^ 24) ends.first
-    long_front (inr ends) = absurd (ends.at.unselected name paged is)
+    long_front (inr ends) =
+        absurd (not_at (too_long_at course.script course.page before after ends))
 
   -- or it isn't
   module _ {status : Status} (run : RunsCourse course before after status) (sound : IsSound before.shelf)
@@ -74,6 +97,12 @@ module _ (course : Course) (name page : List ℕ) (before after : Outside) (page
     not_page ends =
         ends.selected (nothing_selected ends.name (name_in ends.name name (sym ends.first.named ∙ paged)) ends.first.selected)
 
+nothing_at : (request : Request) (before after : Outside)
+    → AtScript (course_of request).script (course_of request).page before after
+    → ReportsFront (course_of request) [] before after
+nothing_at request before after stands =
+    nothing_reported request stands.grammar stands.name before after stands.is stands.at.unmade
+
 pub unread_selected : (words : List (List ℕ)) (request : Request) (name page : List ℕ) (before after : Outside)
     → IsSound before.shelf → IsSound after.shelf → Runs words before after statuses.ReadFault
     → request_of words ≡ Some request → (course_of request).page ≡ File name → Holds before.shelf name page
@@ -89,9 +118,10 @@ pub unread_unselected : (words : List (List ℕ)) (request : Request) (name page
 unread_unselected words request name page before after sound sound_after runs asked paged holds other =
     let run = runs.request request asked in
     elim run.ends.which [
-      | inl unread ↦ no_front (course_of request) name page before after paged holds run sound other run.ends.name
+      | inl unread ↦ no_front (course_of request) name page before after paged holds run sound other unread.name
           sound_after unread.first
-      | inr script ↦ nothing_reported request script.0 before after script.1.named script.1.unput script.1.unpainted
+      | inr script ↦ nothing_at request before after
+          (unread_at (course_of request).script (course_of request).page before after script)
     ]
 
 pub too_long_selected : (words : List (List ℕ)) (request : Request) (name page : List ℕ) (before after : Outside)
@@ -110,7 +140,9 @@ too_long_unselected words request name page before after sound runs asked paged 
     by_which run run.ends
   where
     by_which : RunsCourse (course_of request) before after statuses.TooLong
-        → IsPageTooLong (course_of request) before after ⊎ IsScriptTooLong (course_of request) before after
+        → IsPageTooLong (course_of request) before after
+        ⊎ EndsAtScript (course_of request).script (course_of request).page before after statuses.TooLong
         → ReportsFront (course_of request) [] before after
     by_which run (inl ends) = absurd (not_page (course_of request) name page before after paged holds run sound other ends)
-    by_which run (inr ends) = nothing_reported request ends.name before after ends.at.named ends.at.unput ends.at.unpainted
+    by_which run (inr ends) =
+        nothing_at request before after (too_long_at (course_of request).script (course_of request).page before after ends)

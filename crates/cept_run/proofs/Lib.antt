@@ -32,5 +32,6 @@ pub mod Numbers
 mod Worked
 mod WorkedWords
 mod WorkedCourses
+mod WorkedSequels
 mod WorkedRuns
 mod WorkedStatuses

@@ -20,8 +20,8 @@ use Rattle.cept_run.specs.declared.page.Stop.TheVariants as stops
 use Rattle.cept_run.specs.declared.run.Status.{Status}
 use Rattle.cept_run.specs.declared.run.Status.TheVariants as statuses
 use Rattle.cept_run.specs.declared.words.ReportOptions.{ReportOptions}
-use Rattle.cept_run.specs.Course.{Course, Given, Scripts, sequel_in, report_course, plain_course, text_event}
-use Rattle.cept_run.specs.Events.{history, item_events, text_at_end, edited_events, has_refusal, Sequel, nothing_more}
+use Rattle.cept_run.specs.Course.{Course, Given, NoScript, sequel_in, report_course, plain_course, text_event}
+use Rattle.cept_run.specs.Events.{history, item_events, text_at_end, edited_events, has_refusal, Sequel, NoSequel}
 use Rattle.cept_run.specs.Events.{remaining_after}
 use Rattle.cept_run.specs.Outside.{Outside, output, PutsWhole, PutsUnflushed, PutsFront}
 use Rattle.cept_run.specs.Page.{PutsEnd}
@@ -34,7 +34,6 @@ use Rattle.cept_run.proofs.ReportedRuns.{put_cut, all, edited, the_end, the_run,
 use Rattle.cept_run.proofs.FrontsPut.{cut_front, either_front, either_with}
 use Rattle.cept_run.proofs.ReportedRuns.{put_to_end, front_at_end}
 use Rattle.cept_run.proofs.Selections.{put_either, EndsPut, put_unless, room_kept}
-use Rattle.cept_run.proofs.StoppedScripts.{sequel-none, first_fault-none}
 
 -- ---- the page is put
 
@@ -54,7 +53,7 @@ module _ (page : List ℕ) (before after : Outside) (shelf : after.shelf ≡ bef
     shelf = shelf;
     shelf_stays = λ other. ap (λ (s : ShelfState). s.faults) shelf;
     sink_stays = stays;
-    bad_script = λ name script fault named given found. cc;
+    script_first = tt;
     unpainted = λ idle. same;
     unflushed = put_unless status before.sink after.sink puts;
     room = room_kept status before.sink after.sink puts;
@@ -79,9 +78,7 @@ module _ (page : List ℕ) (before after : Outside) (shelf : after.shelf ≡ bef
     refusals = refl;
     readable = refl;
     can_end = refl;
-    good = first_fault-none;
     page_not_too_long = short;
-    script_not_too_long = omega arith;
     taken = λ name e. cc;
   }
 
@@ -91,8 +88,6 @@ module _ (page : List ℕ) (before after : Outside) (shelf : after.shelf ≡ bef
     page_is = refl;
     script = [];
     script_is = refl;
-    good = first_fault-none;
-    script_not_too_long = omega arith;
     cut = either_with (event ∷ []) (output before) (output after) refl refl (by_text puts.put);
     front = λ blank. either_front (event ∷ []) (output before) (output after) (by_text puts.put);
     taken = λ name e. cc;
@@ -127,15 +122,15 @@ module _ (page : List ℕ) (before after : Outside) (shelf : after.shelf ≡ bef
 -- ---- the page is read
 
 module _ (plan : Plan) (page : List ℕ) (before after : Outside) (shelf : after.shelf ≡ before.shelf)
-    (short : length page ≤ 2 ^ 24) (alone : sequel_of plan ≡ nothing_more) where
+    (short : length page ≤ 2 ^ 24) (alone : sequel_of plan ≡ NoSequel) where
   abbrev options : ReportOptions
   options = plan.options
 
   abbrev loaded : Course
-  loaded = report_course options Scripts (Given page) (Given [])
+  loaded = report_course options (Given page) NoScript
 
   abbrev shown_run : List Event
-  shown_run = the_run options Scripts page [] after.glass.grid
+  shown_run = the_run options NoScript page [] after.glass.grid
 
   runs_loaded : (status : Status) → Ends loaded before after status
       → (status ≢ statuses.WriteFault → after.sink.faults ≡ before.sink.faults)
@@ -147,22 +142,22 @@ module _ (plan : Plan) (page : List ℕ) (before after : Outside) (shelf : after
     shelf = shelf;
     shelf_stays = λ other. ap (λ (s : ShelfState). s.faults) shelf;
     sink_stays = stays;
-    bad_script = λ name script fault named given found. cc;
+    script_first = tt;
     unpainted = idle;
     unflushed = put_unless status before.sink after.sink puts;
     room = room_kept status before.sink after.sink puts;
     sink_faults = later;
   }
 
-  no_lines : sequel_of plan ≡ sequel_in Scripts []
-  no_lines = alone ∙ sym sequel-none
+  no_lines : sequel_of plan ≡ sequel_in NoScript []
+  no_lines = alone
 
   edited_is : edited_events options (closed_items page) (sequel_of plan) ≡ item_events options (closed_items page)
   edited_is = ap (edited_events options (closed_items page)) alone ∙ edited_events-none options (closed_items page)
 
   -- the events where the glass shows what remains
   abbrev meant_run : List Event
-  meant_run = the_run options Scripts page [] (grid (all options Scripts page []))
+  meant_run = the_run options NoScript page [] (grid (all options NoScript page []))
 
   loaded_cut : AreCutOff shown_run (output before) (output after)
       ⊎ (AreMade shown_run (output before) (output after) × (before.sink.always_flushes ≡ false))
@@ -173,8 +168,6 @@ module _ (plan : Plan) (page : List ℕ) (before after : Outside) (shelf : after
     page_is = refl;
     script = [];
     script_is = refl;
-    good = first_fault-none;
-    script_not_too_long = omega arith;
     cut = either_with shown_run (output before) (output after) refl refl cut;
     front = front;
     taken = λ name e. cc;
@@ -190,11 +183,11 @@ module _ (plan : Plan) (page : List ℕ) (before after : Outside) (shelf : after
       subst (λ (s : Stop). RunsCourse loaded before after (status_at_end (Err s))) (sym is)
       (runs_loaded statuses.WriteFault (record {
         write_fault = off.cause;
-        cut = inl (loaded_cut (inl (AreCutOff-longer (edited options Scripts page [])
-            (the_end options Scripts page [] after.glass.grid ∷ []) shown_run (output before) (output after) refl own))
+        cut = inl (loaded_cut (inl (AreCutOff-longer (edited options NoScript page [])
+            (the_end options NoScript page [] after.glass.grid ∷ []) shown_run (output before) (output after) refl own))
             (λ blank. cut_front meant_run (output before) (output after)
-            (AreCutOff-longer (edited options Scripts page [])
-            (the_end options Scripts page [] (grid (all options Scripts page [])) ∷ []) meant_run (output before)
+            (AreCutOff-longer (edited options NoScript page [])
+            (the_end options NoScript page [] (grid (all options NoScript page [])) ∷ []) meant_run (output before)
             (output after) refl own)));
       }) (λ other. absurd (other refl)) (λ idle. cut_untouched (edited_events options (closed_items page) (sequel_of plan)) (output before) (output after)
       (subst AreStill (sym edited_is) (still_idle options (closed_items page) idle)) off)
@@ -214,10 +207,10 @@ module _ (plan : Plan) (page : List ℕ) (before after : Outside) (shelf : after
       (output_of sink after.glass)) (stays : sink.faults ≡ before.sink.faults)
       (restores : Restores (page_text (core (remaining_at_end plan (closed_items page))))
       (remaining_at_end plan (closed_items page))) where
-    all_is : remaining_at_end plan (closed_items page) ≡ all options Scripts page []
+    all_is : remaining_at_end plan (closed_items page) ≡ all options NoScript page []
     all_is = ap (remaining_after (history options (closed_items page))) no_lines
 
-    made : AreMade (edited options Scripts page []) (output before) (output_of sink after.glass)
+    made : AreMade (edited options NoScript page []) (output before) (output_of sink after.glass)
     made = subst (λ (s : Sequel). AreMade (edited_events options (closed_items page) s) (output before)
         (output_of sink after.glass)) no_lines made_all
 
@@ -226,26 +219,24 @@ module _ (plan : Plan) (page : List ℕ) (before after : Outside) (shelf : after
         (subst AreStill (sym edited_is) (still_idle options (closed_items page) idle))
 
     loaded_whole : (refused : Bool) → refused ≡ has_refusal (closed_items page)
-        → PutsWhole (text_at_end options after.glass.grid page (all options Scripts page [])) sink after.sink
+        → PutsWhole (text_at_end options after.glass.grid page (all options NoScript page [])) sink after.sink
         → EndsWhole loaded before after refused
     loaded_whole refused is puts = record {
       page = page;
       page_is = refl;
       script = [];
       script_is = refl;
-      reports = whole_report options Scripts page [] before after sink made stays (Given page) (Given [])
+      reports = whole_report options NoScript page [] before after sink made stays (Given page)
           (subst (λ (h : List Command). Restores (page_text (core h)) h) all_is restores) puts;
       refusals = is;
       readable = refl;
       can_end = refl;
-      good = first_fault-none;
       page_not_too_long = short;
-      script_not_too_long = omega arith;
       taken = λ name e. cc;
     }
 
     by_end : (result : Result Bool Stop)
-        → PutsEnd (text_at_end options after.glass.grid page (all options Scripts page [])) (has_refusal (closed_items page)) sink
+        → PutsEnd (text_at_end options after.glass.grid page (all options NoScript page [])) (has_refusal (closed_items page)) sink
         result after.sink → RunsCourse loaded before after (status_at_end result)
     by_end (Ok false) puts = runs_loaded statuses.Done (loaded_whole false puts.1 puts.0) (λ other. puts.0.stays ∙ stays)
         idle_run (inr (refl, puts.0.room ∙ made.put.room))
@@ -257,9 +248,9 @@ module _ (plan : Plan) (page : List ℕ) (before after : Outside) (shelf : after
         subst (λ (s : Stop). RunsCourse loaded before after (status_at_end (Err s))) (sym puts.1)
         (runs_loaded statuses.WriteFault (record {
           write_fault = subst (λ n. Rose n after.sink.faults) stays puts.0.cause;
-          cut = inl (loaded_cut (cut_at_end options Scripts page [] before after sink made stays puts.0)
-              (front_at_end options Scripts page [] before after sink made stays puts.0));
-        }) (λ other. absurd (other refl)) idle_run (inl (put_to_end options Scripts page [] before after sink made stays puts.0))
+          cut = inl (loaded_cut (cut_at_end options NoScript page [] before after sink made stays puts.0)
+              (front_at_end options NoScript page [] before after sink made stays puts.0));
+        }) (λ other. absurd (other refl)) idle_run (inl (put_to_end options NoScript page [] before after sink made stays puts.0))
         (omega (arith, puts.0.later, stays)))
 
     pub loads_read : (result : Result Bool Stop)

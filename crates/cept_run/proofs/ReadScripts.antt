@@ -12,14 +12,14 @@ use Rattle.cept_plot.specs.declared.drawing.DrawFault.TheVariants as draw_faults
 use Rattle.cept_plot.specs.Drawings.{SaysFault as SaysFaultOfDrawing}
 use Rattle.cept_run.specs.declared.page.Stop.{Stop}
 use Rattle.cept_run.specs.declared.page.Stop.TheVariants as stops
-use Rattle.cept_run.specs.Course.{File, Gives, Grammar, first_fault_in, sequel_in}
+use Rattle.cept_run.specs.Course.{Gives, Grammar, first_fault_in, ScriptFile, sequel_in}
 use Rattle.cept_run.specs.Events.{Sequel}
 use Rattle.cept_run.specs.Page.{KeepsShelf}
 use Rattle.cept_run.specs.Taking.{AreLeft, TakesWhole}
 use Rattle.cept_run.specs.inside.ScriptReading.{TakingStops, Refuses, StopsAt}
 use Rattle.cept_run.specs.ScriptReading.{ScriptStops, ScriptEnds, SelectsScript}
 use Rattle.cept_run.specs.inside.ScriptReading.{as_script_fault}
-use Rattle.cept_run.specs.Run.{HasBadLine, fault_text}
+use Rattle.cept_run.specs.Run.{fault_text}
 use Rattle.cept_run.proofs.PagesInPieces.{KeepsFiles-more}
 use Rattle.cept_run.proofs.Selections.{selected_is, given_left}
 
@@ -96,7 +96,7 @@ module _ (grammar : Grammar) (name : List ℕ) (before after : ShelfState) where
   module _ (bytes : List ℕ) (whole : TakesWhole (Gives before name) (2 ^ 20) bytes before after) where
     -- it is within the grammar
     pub script_good : {A : Type 0} (sequel : A → Sequel) (read : A) (old : SinkState)
-        → first_fault_in grammar bytes ≡ None → sequel read ≡ sequel_in grammar bytes
+        → first_fault_in grammar bytes ≡ None → sequel read ≡ sequel_in (ScriptFile grammar name) bytes
         → ScriptEnds grammar sequel name before old (Ok read) after old
     script_good sequel read old good are = (
       record {
@@ -108,28 +108,15 @@ module _ (grammar : Grammar) (name : List ℕ) (before after : ShelfState) where
       refl,
     )
 
-    abbrev bad_line : (fault : Fault) → first_fault_in grammar bytes ≡ Some fault
-        → HasBadLine (first_fault_in grammar) (File name) before after
-    bad_line fault found = record {
-      name = name;
-      named = refl;
-      script = bytes;
-      script_is = whole.known;
-      fault = fault;
-      found = found;
-      not_too_long = whole.few;
-      taken = whole.taken;
-    }
-
     -- it isn't
     script_bad : (fault : Fault) (stop : Stop) (old new : SinkState) → first_fault_in grammar bytes ≡ Some fault
         → Refuses (fault_text fault) old stop new → ScriptStops grammar name before old stop after new
     script_bad fault stops.ReadFault old new found refuses = elim refuses [ ]
     script_bad fault stops.WriteFault old new found refuses =
-        record { bad = bad_line fault found; put = refuses; stays = whole.stays }
+        record { bytes = bytes; takes = whole; fault = fault; found = found; put = refuses }
     script_bad fault stops.TooLong old new found refuses = elim refuses [ ]
     script_bad fault stops.Script old new found refuses =
-        record { bad = bad_line fault found; put = refuses; stays = whole.stays }
+        record { bytes = bytes; takes = whole; fault = fault; found = found; put = refuses }
     script_bad fault stops.NoMemory old new found refuses = elim refuses [ ]
     script_bad fault stops.NotSeven old new found refuses = elim refuses [ ]
 

@@ -8,17 +8,17 @@ use Rattle.cept_outside.proofs.Laws.{append_known-nil, count_after-nil}
 use Rattle.cept_parser.specs.Items.{items, reading_within}
 use Rattle.cept_profile.specs.Changes.{grid_with_paints}
 use Rattle.cept_run.specs.declared.words.ReportOptions.{ReportOptions}
-use Rattle.cept_run.specs.Course.{Source, Grammar, report_course}
+use Rattle.cept_run.specs.Course.{Source, ScriptSource, report_course}
 use Rattle.cept_run.specs.Events.{item_events}
 use Rattle.cept_run.specs.Outside.{Outside, output}
 use Rattle.cept_run.specs.Run.{ReportsFront}
 use Rattle.cept_run.proofs.EventsOfItems.{item_events-none}
 use Rattle.cept_run.proofs.PaintedItems.{blank_painted}
 
-pub reports_front : (options : ReportOptions) (grammar : Grammar) (page script : Source) (front : List ℕ) (before after : Outside)
+pub reports_front : (options : ReportOptions) (page : Source) (script : ScriptSource) (front : List ℕ) (before after : Outside)
     → AreMade (item_events options (items front)) (output before) (output after)
-    → ReportsFront (report_course options grammar page script) front before after
-reports_front options grammar page script front before after made = record {
+    → ReportsFront (report_course options page script) front before after
+reports_front options page source front before after made = record {
   made = made;
   meaning = λ blank. made.painted.over
       ∙ ap (λ g. grid_with_paints g (paints (item_events options (items front)))) blank ∙ blank_painted options (items front);
@@ -30,10 +30,10 @@ unfolding reading_within
 no_events options = item_events-none options
 
 -- of no bytes nothing
-pub reports_nothing : (options : ReportOptions) (grammar : Grammar) (page script : Source) (before after : Outside)
-    → output after ≡ output before → ReportsFront (report_course options grammar page script) [] before after
-reports_nothing options grammar page script before after same =
-    reports_front options grammar page script [] before after
+pub reports_nothing : (options : ReportOptions) (page : Source) (script : ScriptSource) (before after : Outside)
+    → output after ≡ output before → ReportsFront (report_course options page script) [] before after
+reports_nothing options page source before after same =
+    reports_front options page source [] before after
     (subst (λ (o : Output). AreMade (item_events options (items [])) (output before) o) (sym same)
     (subst (λ (es : List Event). AreMade es (output before) (output before)) (sym (no_events options))
     (AreMade-none (output before))))

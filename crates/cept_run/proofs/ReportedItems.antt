@@ -1,5 +1,5 @@
 -- How a reporter stands after one item more.
-use Rattle.std.proofs.Common.{◌≡◌, ℕ, ◌+◌, ◌<◌, ◌≤◌, Bool, true, false, cond, Option, Some, None, Result, Ok, Err, List}
+use Rattle.std.proofs.Common.{◌≡◌, ℕ, ◌+◌, ◌<◌, ◌≤◌, Bool, true, false, cond, Some, None, Result, Ok, Err, List}
 use Rattle.std.proofs.Common.{[], ◌∷◌, ◌++◌, length, take, drop, get_or, refl, sym, ◌∙◌, ap, subst, arith, append_assoc}
 use Rattle.std.proofs.Common.{take-append-drop, length-append, add-zero, add-one, drop-cons}
 use Rattle.std.proofs.lemmas.List.{take_more, take_all}
@@ -35,7 +35,7 @@ use Rattle.cept_run.specs.declared.target.Target.{Target}
 use Rattle.cept_run.specs.declared.target.Target.TheVariants as targets
 use Rattle.cept_run.specs.declared.words.ReportOptions.{ReportOptions}
 use Rattle.cept_run.specs.Events.{history, event_between, listed_text, text_of_said, item_event, item_events, refused_count}
-use Rattle.cept_run.specs.Events.{named_text, painted_count, Sequel, Edits, Figures}
+use Rattle.cept_run.specs.Events.{named_text, painted_count, Sequel, NoSequel, Edits, Figures}
 use Rattle.cept_parser.specs.Items.{items, closed_items, reading_within, is_refusal}
 use Rattle.cept_parser.specs.State.{Leads}
 use Rattle.cept_run.specs.Reporting.{DecoderState, HasRead, ReadsOn, ReadsToEnd}
@@ -385,11 +385,11 @@ append_other : (h : List Command) (c : Command) → h ++ c ∷ [] ≡ h → ⊥
 append_other h c e = absurd (omega (arith, ap length e, length-append h (c ∷ [])))
 
 -- what a screen is, where it is what commands are painted on
-pub screen_painted : (sequel : Option Sequel) (screen : State) (h : List Command)
-    → targets.Screen screen ≡ painted_target sequel h → (sequel ≡ None) × (screen ≡ state h)
-screen_painted None screen h e = (refl, same_Some screen (state h) (ap screen_of e))
-screen_painted (Some (Edits lines)) screen h e = cc
-screen_painted (Some (Figures figures)) screen h e = cc
+pub screen_painted : (sequel : Sequel) (screen : State) (h : List Command)
+    → targets.Screen screen ≡ painted_target sequel h → (sequel ≡ NoSequel) × (screen ≡ state h)
+screen_painted NoSequel screen h e = (refl, same_Some screen (state h) (ap screen_of e))
+screen_painted (Edits lines) screen h e = cc
+screen_painted (Figures figures) screen h e = cc
 
 abbrev pub editor_in : EditorState → Target → EditorState
 editor_in other targets.Nothing = other
@@ -398,19 +398,19 @@ editor_in other (targets.Editor editor lines) = editor
 editor_in other (targets.Drawing screen figures) = other
 
 -- and what an editor is
-pub editor_painted : (sequel : Option Sequel) (editor : EditorState) (lines : List EditLine) (h : List Command)
+pub editor_painted : (sequel : Sequel) (editor : EditorState) (lines : List EditLine) (h : List Command)
     → targets.Editor editor lines ≡ painted_target sequel h
-    → (sequel ≡ Some (Edits lines)) × (editor ≡ record { screen = state h; past = []; future = [] })
-editor_painted None editor lines h e = cc
-editor_painted (Some (Edits others)) editor lines h e = (sym (ap sequel_at e), ap (editor_in editor) e)
-editor_painted (Some (Figures figures)) editor lines h e = cc
+    → (sequel ≡ Edits lines) × (editor ≡ record { screen = state h; past = []; future = [] })
+editor_painted NoSequel editor lines h e = cc
+editor_painted (Edits others) editor lines h e = (sym (ap sequel_at e), ap (editor_in editor) e)
+editor_painted (Figures figures) editor lines h e = cc
 
 -- and what a screen with a drawing is
-pub drawing_painted : (sequel : Option Sequel) (screen : State) (figures : List Figure) (h : List Command)
-    → targets.Drawing screen figures ≡ painted_target sequel h → (sequel ≡ Some (Figures figures)) × (screen ≡ state h)
-drawing_painted None screen figures h e = cc
-drawing_painted (Some (Edits lines)) screen figures h e = cc
-drawing_painted (Some (Figures others)) screen figures h e =
+pub drawing_painted : (sequel : Sequel) (screen : State) (figures : List Figure) (h : List Command)
+    → targets.Drawing screen figures ≡ painted_target sequel h → (sequel ≡ Figures figures) × (screen ≡ state h)
+drawing_painted NoSequel screen figures h e = cc
+drawing_painted (Edits lines) screen figures h e = cc
+drawing_painted (Figures others) screen figures h e =
     (sym (ap sequel_at e), same_Some screen (state h) (ap screen_of e))
 
 editor_with : (editor : EditorState) (screen : State) (past future : List State) → editor.screen ≡ screen
@@ -418,18 +418,18 @@ editor_with : (editor : EditorState) (screen : State) (past future : List State)
 editor_with editor screen past future s p f = λ i. record { screen = s i; past = p i; future = f i }
 
 -- there is something to paint on
-pub not_idle : (sequel : Option Sequel) (h : List Command) → targets.Nothing ≡ painted_target sequel h → ⊥
-not_idle None h e = cc
-not_idle (Some (Edits lines)) h e = cc
-not_idle (Some (Figures figures)) h e = cc
+pub not_idle : (sequel : Sequel) (h : List Command) → targets.Nothing ≡ painted_target sequel h → ⊥
+not_idle NoSequel h e = cc
+not_idle (Edits lines) h e = cc
+not_idle (Figures figures) h e = cc
 
 -- what a command changes, where it leads a screen's state on
 module _ (screen new : State) (marks : List Bool) (command : Command) (glass shown : GlassState) (from to : ℕ)
     (is_applied : IsApplied screen command new marks glass shown from to) where
-  applied : (sequel : Option Sequel) (h : List Command) (target : Target) → screen ≡ state h
+  applied : (sequel : Sequel) (h : List Command) (target : Target) → screen ≡ state h
       → new ≡ state (h ++ command ∷ []) → target ≡ painted_target sequel (h ++ command ∷ [])
       → IsAppliedAfter sequel h command glass target marks shown
-  applied sequel h target before after at =
+  applied next h target before after at =
       let grids : (f : List (List Look) → List (List Look) → List (Place × Look))
       → f (looks_of (core_of screen)) (looks_of (core_of new)) ≡ f (grid h) (grid (h ++ command ∷ [])) =
       λ f. ap (λ (s : State). f (looks_of (core_of s)) (looks_of (core_of new))) before
@@ -449,7 +449,7 @@ module _ (screen new : State) (marks : List Bool) (command : Command) (glass sho
         let is = screen_painted sequel screen h e in
         let after = is_applied.goes_on h valid is.1 in
         applied sequel h (targets.Screen new) is.1 after (ap targets.Screen after
-        ∙ ap (λ (o : Option Sequel). painted_target o (h ++ command ∷ [])) (sym is.0));
+        ∙ ap (λ (o : Sequel). painted_target o (h ++ command ∷ [])) (sym is.0));
     idle = λ none. cc;
   }
 
@@ -461,7 +461,7 @@ module _ (screen new : State) (marks : List Bool) (command : Command) (glass sho
         let is = drawing_painted sequel screen figures h e in
         let after = is_applied.goes_on h valid is.1 in
         applied sequel h (targets.Drawing new figures) is.1 after (ap (λ (s : State). targets.Drawing s figures) after
-        ∙ ap (λ (o : Option Sequel). painted_target o (h ++ command ∷ [])) (sym is.0));
+        ∙ ap (λ (o : Sequel). painted_target o (h ++ command ∷ [])) (sym is.0));
     idle = λ none. cc;
   }
 
@@ -478,7 +478,7 @@ module _ (screen new : State) (marks : List Bool) (command : Command) (glass sho
         (ap (λ (s : EditorState). targets.Editor s lines)
         (editor_with after (state (h ++ command ∷ [])) [] [] (now ∙ next)
         (past ∙ ap (λ (s : EditorState). s.past) is.1) future)
-        ∙ ap (λ (o : Option Sequel). painted_target o (h ++ command ∷ [])) (sym is.0));
+        ∙ ap (λ (o : Sequel). painted_target o (h ++ command ∷ [])) (sym is.0));
     idle = λ none. cc;
   }
 
@@ -510,16 +510,16 @@ module _ (old : ReporterState) (target : Target) (item : Item) (command : Comman
       result now)
       (count_is : count ≡ cond (is_counted old.options.end) (count_by (λ b. b) marks) 0) (few : count ≤ 960) where
     -- the screen is that after the command
-    module _ (sequel : Option Sequel) (h : List Command) (is : IsAppliedAfter sequel h command glass target marks shown)
+    module _ (sequel : Sequel) (h : List Command) (is : IsAppliedAfter sequel h command glass target marks shown)
       where
         screen_is : screen ≡ state (h ++ command ∷ [])
         screen_is = same_Some screen (state (h ++ command ∷ []))
             (sym at ∙ ap screen_of is.target_is ∙ of_painted sequel (h ++ command ∷ []))
           where
-            of_painted : (o : Option Sequel) (k : List Command) → screen_of (painted_target o k) ≡ Some (state k)
-            of_painted None k = refl
-            of_painted (Some (Edits lines)) k = refl
-            of_painted (Some (Figures figures)) k = refl
+            of_painted : (o : Sequel) (k : List Command) → screen_of (painted_target o k) ≡ Some (state k)
+            of_painted NoSequel k = refl
+            of_painted (Edits lines) k = refl
+            of_painted (Figures figures) k = refl
 
         listed_are : marked_looks marks (looks_of (core_of screen)) ≡ changes h command
         listed_are = ap (λ m. marked_looks m (looks_of (core_of screen))) is.marked
@@ -574,11 +574,11 @@ module _ (old : ReporterState) (target : Target) (item : Item) (command : Comman
     };
   }
     where
-      with_screen : (sequel : Option Sequel) (h : List Command)
+      with_screen : (sequel : Sequel) (h : List Command)
           → IsAppliedAfter sequel h command glass target marks shown → ⊥
-      with_screen None h is = none-some (state (h ++ command ∷ [])) (sym none ∙ ap screen_of is.target_is)
-      with_screen (Some (Edits lines)) h is = none-some (state (h ++ command ∷ [])) (sym none ∙ ap screen_of is.target_is)
-      with_screen (Some (Figures figures)) h is =
+      with_screen NoSequel h is = none-some (state (h ++ command ∷ [])) (sym none ∙ ap screen_of is.target_is)
+      with_screen (Edits lines) h is = none-some (state (h ++ command ∷ [])) (sym none ∙ ap screen_of is.target_is)
+      with_screen (Figures figures) h is =
           none-some (state (h ++ command ∷ [])) (sym none ∙ ap screen_of is.target_is)
 
 -- ---- lists that are gone through

@@ -19,7 +19,7 @@ use Rattle.cept_run.specs.declared.words.ReportOptions.{ReportOptions}
 use Rattle.cept_run.specs.Events.{text_at_end, painted_end, end_event, edited_events, run_events, remaining_of, refused_count}
 use Rattle.cept_run.specs.Events.{Sequel, counts_text}
 use Rattle.cept_run.specs.Outside.{Outside, output, PutsWhole, PutsUnflushed, PutsFront}
-use Rattle.cept_run.specs.Course.{Source, Grammar, sequel_in, is_page, puts_page, report_course}
+use Rattle.cept_run.specs.Course.{Source, ScriptSource, sequel_in, is_page, puts_page, report_course}
 use Rattle.cept_run.specs.declared.words.End.{End}
 use Rattle.cept_run.specs.declared.words.End.TheVariants as ends
 use Rattle.cept_run.specs.Run.{Restores, ReportsWhole}
@@ -90,9 +90,9 @@ written_text options shown page commands puts =
 
 -- ---- a page, and what a script or a drawing says is done after it
 
-module _ (options : ReportOptions) (grammar : Grammar) (bytes script : List ℕ) where
+module _ (options : ReportOptions) (source : ScriptSource) (bytes script : List ℕ) where
   abbrev pub sequel : Sequel
-  sequel = sequel_in grammar script
+  sequel = sequel_in source script
 
   abbrev pub all : List Command
   all = remaining_of options bytes sequel
@@ -140,9 +140,9 @@ module _ (options : ReportOptions) (grammar : Grammar) (bytes script : List ℕ)
     whole_is = report-append edited (last ∷ [])
 
     -- it was put
-    pub whole_report : (page source : Source) → Restores (page_text (core all)) all → PutsWhole the_text sink after.sink
-        → ReportsWhole (report_course options grammar page source) bytes script before after
-    whole_report page source restores puts = record {
+    pub whole_report : (page : Source) → Restores (page_text (core all)) all → PutsWhole the_text sink after.sink
+        → ReportsWhole (report_course options page source) bytes script before after
+    whole_report page restores puts = record {
       put = record {
         put = puts.put ∙ ap (λ known. append_known known the_text) made.put.bytes
             ∙ append_known-append_known before.sink.bytes (report edited) the_text

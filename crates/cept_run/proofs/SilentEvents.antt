@@ -19,7 +19,7 @@ use Rattle.cept_run.specs.Events.{listed_text, named_text}
 use Rattle.cept_run.specs.declared.words.Way.{Way}
 use Rattle.cept_run.specs.declared.words.Way.TheVariants as ways
 use Rattle.cept_run.specs.Events.{history, text_of_said, item_event, item_events, events_of_line}
-use Rattle.cept_run.specs.Events.{edited_events, kept_of, Sequel, Edits, Figures, drawing_commands, sequel_events}
+use Rattle.cept_run.specs.Events.{edited_events, kept_of, Sequel, NoSequel, Edits, Figures, drawing_commands, sequel_events}
 use Rattle.cept_run.proofs.EventsOfItems.{events_after, item_events-after}
 use Rattle.cept_run.proofs.EditedLines.{lines_after, script_events-after}
 
@@ -87,6 +87,7 @@ silent_drawing listed page figures =
 
 silent_sequel : (listed : Bool) (page : List Command) (sequel : Sequel) → listed ≡ false
     → report (sequel_events listed page sequel) ≡ []
+silent_sequel listed page NoSequel t = report-none
 silent_sequel listed page (Edits lines) t =
     ap report (script_events-after listed page lines) ∙ silent_lines_after listed page [] lines t
 silent_sequel listed page (Figures figures) t = silent_drawing listed page figures

@@ -1,14 +1,13 @@
 -- How a run ends by its script or its drawing.
 use Rattle.std.proofs.Common.{◌≡◌, ◌≢◌, ◌⊎◌, inl, inr, ℕ, ◌^◌, ◌<◌, ◌≤◌, true, false, List, []}
-use Rattle.std.proofs.Common.{Some, None, is_some, IsSome, refl, sym, ◌∙◌, ap, subst, arith}
+use Rattle.std.proofs.Common.{Some, None, is_some, refl, sym, ◌∙◌, ap, subst, arith}
 use Rattle.std.proofs.Common.{length, take}
 use Rattle.std.proofs.lemmas.List.{take_all}
 use Rattle.std.proofs.lemmas.Option.{none-some, same_Some}
 use Rattle.std.specs.Io.KnownBytes.{append_known}
-use Rattle.cept_editor.specs.Script.{edits, edits_from, first_fault}
-use Rattle.cept_words.specs.Faults.{Fault, fault_from}
+use Rattle.cept_words.specs.Faults.{Fault}
+use Rattle.cept_editor.specs.Made.{output_of}
 use Rattle.cept_outside.specs.ShelfState.{ShelfState, IsSound}
-use Rattle.cept_outside.specs.ShelfState.{bytes_under}
 use Rattle.cept_outside.specs.SinkState.{SinkState, HasPut, Gains, GainsPart}
 use Rattle.cept_outside.proofs.Laws.{HasPut-nothing, append_known-nil}
 use Rattle.cept_run.specs.declared.page.Stop.{Stop}
@@ -16,12 +15,12 @@ use Rattle.cept_run.specs.declared.page.Stop.TheVariants as stops
 use Rattle.cept_run.specs.declared.run.Status.{Status}
 use Rattle.cept_run.specs.declared.run.Status.TheVariants as statuses
 use Rattle.cept_run.specs.declared.words.ReportOptions.{ReportOptions}
-use Rattle.cept_run.specs.Course.{Course, Source, File, Given, Gives, Grammar, Scripts, first_fault_in, sequel_in, report_course}
-use Rattle.cept_run.specs.Events.{Sequel, Edits, nothing_more}
-use Rattle.cept_run.specs.Outside.{Outside, outside_of}
-use Rattle.cept_run.specs.Run.{fault_text, HasBadLine, IsAtScript, Ends, RunsCourse}
+use Rattle.cept_run.specs.Course.{Course, Source, File, Given, Gives, Grammar, first_fault_in, NoScript, ScriptFile, report_course}
+use Rattle.cept_run.specs.Events.{Sequel}
+use Rattle.cept_run.specs.Outside.{Outside, outside_of, PutsWhole, PutsFront}
+use Rattle.cept_run.specs.Run.{fault_text, EndsAtBadLine, IsAtScript, Ends, RunsCourse}
 use Rattle.cept_run.specs.Run.{status_of}
-use Rattle.cept_run.specs.ScriptReading.{ScriptWhole, ScriptStops, SelectsScript}
+use Rattle.cept_run.specs.ScriptReading.{ScriptWhole, ScriptRefused, ScriptStops, SelectsScript}
 use Rattle.cept_run.specs.inside.ScriptReading.{ScriptKnown}
 use Rattle.cept_run.specs.Words.{is_painted}
 use Rattle.cept_run.proofs.Selections.{put_either, EndsPut, put_unless, room_kept}
@@ -37,41 +36,23 @@ name_in name other e = ap (name_of name) e
 
 -- ---- the script was read, or none is asked for
 
--- a script of no bytes has no edits and no fault
-edits-none : edits [] ≡ []
-unfolding edits_from
-edits-none = refl
-
-pub sequel-none : sequel_in Scripts [] ≡ nothing_more
-sequel-none = ap Edits edits-none
-
-pub first_fault-none : first_fault [] ≡ None
-unfolding fault_from
-first_fault-none = refl
-
 -- none is asked for
-pub no_script : (page : List ℕ) (shelf : ShelfState) → ScriptKnown Scripts page (Given []) [] shelf shelf
-no_script page shelf = record {
-  has = refl;
-  good = first_fault-none;
-  few = omega arith;
-  differs = λ name e. cc;
+pub no_script : (shelf : ShelfState) → ScriptKnown NoScript [] shelf shelf
+no_script shelf = record {
+  is = refl;
   files = record { files = refl; tells_selected = refl; tells_left = refl };
   missed = λ there. refl;
   stays = refl;
 }
 
 -- it was read
-pub script_read : (grammar : Grammar) (page name : List ℕ) (sequel : Sequel) (before mid : ShelfState) → name ≢ page
+pub script_read : (grammar : Grammar) (name : List ℕ) (sequel : Sequel) (before mid : ShelfState)
     → SelectsScript name before mid → (whole : ScriptWhole grammar name sequel before mid)
-    → ScriptKnown grammar page (File name) whole.bytes before mid
-script_read grammar page name sequel before mid differs selects whole = record {
-  has = whole.takes.known;
-  good = whole.good;
-  few = whole.takes.few;
-  differs = λ other e. subst (λ n. n ≢ page) (name_in name other e) differs;
+    → ScriptKnown (ScriptFile grammar name) whole.bytes before mid
+script_read grammar name next before mid selects whole = record {
+  is = (whole.takes.known, whole.good, whole.takes.few);
   files = selects.files;
-  missed = λ there. selects.missed (there name refl);
+  missed = λ there. selects.missed (there grammar name refl);
   stays = whole.takes.stays;
 }
 
@@ -90,7 +71,7 @@ module _ (options : ReportOptions) (grammar : Grammar) (page name : List ℕ) (b
     (sink : SinkState) (painting : is_painted options.way ≡ true) (differs : name ≢ page)
     (selects : SelectsScript name before.shelf shelf) where
   abbrev course : Course
-  course = report_course options grammar (File page) (File name)
+  course = report_course options (File page) (ScriptFile grammar name)
 
   abbrev now : Outside
   now = outside_of shelf sink before.glass
@@ -103,10 +84,13 @@ module _ (options : ReportOptions) (grammar : Grammar) (page name : List ℕ) (b
       by_name (inl e) = none-some page (sym e)
       by_name (inr e) = differs (sym (same_Some page name e))
 
+  unselected : (other : List ℕ) → File page ≡ File other → shelf.selected ≢ Some (Some other)
+  unselected other is chosen = page_unselected (chosen ∙ ap (λ n. Some (Some n)) (sym (name_in page other is)))
+
   runs_script : (status : Status) → Ends course before now status
       → (status ≢ statuses.ReadFault → shelf.faults ≡ before.shelf.faults)
       → (status ≢ statuses.WriteFault → sink.faults ≡ before.sink.faults)
-      → ((other script : List ℕ) (fault : Fault) → File name ≡ File other → Gives before.shelf other script
+      → ((script : List ℕ) (fault : Fault) → Gives before.shelf name script
       → first_fault_in grammar script ≡ Some fault → PutsAtMost (fault_text fault) before now)
       → EndsPut status before.sink sink → before.sink.faults ≤ sink.faults
       → RunsCourse course before now status
@@ -115,17 +99,15 @@ module _ (options : ReportOptions) (grammar : Grammar) (page name : List ℕ) (b
     shelf_stays = shelf_stays;
     sink_stays = sink_stays;
     shelf = record {
-      script_first = λ other bytes named holds stops. (
-        selects.missed (subst (λ n. IsSome (bytes_under before.shelf n)) (sym (name_in name other named))
-            (ap is_some holds.under)),
-        λ touched. page_unselected,
-      );
-      missed = λ there scripts. selects.missed (scripts name refl);
-      selects = λ touched. inr (name, refl, selects.selects);
+      missed = λ there scripts. selects.missed (scripts grammar name refl);
+      selects = λ touched. inr (grammar, name, refl, selects.selects);
       files = selects.files;
       faults = selects.faults;
     };
-    bad_script = bad;
+    script_first = record {
+      stops = λ script holds why. (selects.missed (ap is_some holds.under), λ touched. unselected);
+      bad = bad;
+    };
     unpainted = λ idle. refl;
     unflushed = put_unless status before.sink sink puts;
     room = room_kept status before.sink sink puts;
@@ -137,7 +119,7 @@ module _ (options : ReportOptions) (grammar : Grammar) (page name : List ℕ) (b
       → (status ≢ statuses.ReadFault → shelf.faults ≡ before.shelf.faults) → sink ≡ before.sink
       → RunsCourse course before now status
   runs_unput status ends stays same = runs_script status ends stays (λ other. ap (λ (s : SinkState). s.faults) same)
-      (λ other script fault is given found.
+      (λ script fault given found.
       (refl, 0, ap (λ (s : SinkState). s.bytes) same ∙ append_known-nil before.sink.bytes))
       (inl (subst (λ (s : SinkState). HasPut before.sink s) (sym same) (HasPut-nothing before.sink)))
       (omega (arith, ap (λ (s : SinkState). s.faults) same))
@@ -145,28 +127,37 @@ module _ (options : ReportOptions) (grammar : Grammar) (page name : List ℕ) (b
   -- ---- a line of it is outside the grammar
 
   -- nothing was put, and the page isn't selected
-  at_script : sink ≡ before.sink → IsAtScript course name before now
+  at_script : sink ≡ before.sink → IsAtScript name (File page) before now
   at_script same = record {
-    named = refl;
+    unmade = ap (λ (s : SinkState). output_of s before.glass) same;
     selected = selects.selects;
-    unselected = λ other is chosen. page_unselected (chosen ∙ ap (λ n. Some (Some n)) (sym (name_in page other is)));
-    unput = same;
-    unpainted = refl;
+    page_unselected = (page, refl, page_unselected);
   }
 
-  module _ (bad : HasBadLine (first_fault_in grammar) (File name) before.shelf shelf) where
+  module _ {Put : List ℕ → Type 0} (refused : ScriptRefused grammar name before.shelf shelf Put) where
     abbrev text : List ℕ
-    text = fault_text bad.fault
+    text = fault_text refused.fault
 
     -- its fault is the one that was found
-    most_as : PutsAtMost text before now → (other script : List ℕ) (fault : Fault) → File name ≡ File other
-        → Gives before.shelf other script → first_fault_in grammar script ≡ Some fault
-        → PutsAtMost (fault_text fault) before now
-    most_as most other script fault is given found =
-        let same : bad.fault ≡ fault = same_Some bad.fault fault (sym bad.found ∙ ap (first_fault_in grammar)
-        (bad.script_is script (subst (λ n. Gives before.shelf n script) (name_in other bad.name (sym is ∙ bad.named)) given))
-        ∙ found) in
+    most_as : PutsAtMost text before now → (script : List ℕ) (fault : Fault) → Gives before.shelf name script
+        → first_fault_in grammar script ≡ Some fault → PutsAtMost (fault_text fault) before now
+    most_as most script fault given found =
+        let same : refused.fault ≡ fault = same_Some refused.fault fault (sym refused.found ∙ ap (first_fault_in grammar)
+        (refused.takes.known script given) ∙ found) in
         subst (λ (f : Fault). PutsAtMost (fault_text f) before now) same most
+
+    bad_line : (Puts : List ℕ → SinkState → SinkState → Type 0) → Puts text before.sink sink
+        → EndsAtBadLine Puts grammar name before now
+    bad_line Puts put = record {
+      script = refused.bytes;
+      script_is = refused.takes.known;
+      fault = refused.fault;
+      found = refused.found;
+      not_too_long = refused.takes.few;
+      taken = refused.takes.taken;
+      put = put;
+      unpainted = refl;
+    }
 
     -- the whole line was put
     most_all : sink.bytes ≡ append_known before.sink.bytes text → PutsAtMost text before now
@@ -187,30 +178,21 @@ module _ (options : ReportOptions) (grammar : Grammar) (page name : List ℕ) (b
   ends_at_script stops.ReadFault sound ends = runs_unput statuses.ReadFault (record {
     read_fault = ends.0.cause;
     unended = ends.0.unended;
-    name = page;
-    named = refl;
-    which = inr (name, at_script ends.1, ends.0.few);
+    which = inr (at_script ends.1, ends.0.few);
   }) (λ other. absurd (other refl)) ends.1
   ends_at_script stops.WriteFault sound ends = runs_script statuses.WriteFault (record {
     write_fault = ends.put.cause;
-    cut = inr (record { bad = ends.bad; put = ends.put.put; unpainted = refl });
-  }) (λ other. ends.stays) (λ other. absurd (other refl)) (most_as ends.bad (most_part ends.bad ends.put.put))
-      (inl (put_either (text ends.bad) before.sink sink ends.put.put)) ends.put.later
-  ends_at_script stops.TooLong sound ends = runs_unput statuses.TooLong (inr (record {
-    name = name;
-    too_long = ends.0.cause;
-    selected = named_so_long shelf sound ends.0.cause;
-    longer = ends.0.longer;
-    at = at_script ends.1;
-  })) (λ other. ends.0.stays) ends.1
-  ends_at_script stops.Script sound ends = runs_script statuses.Script (record {
-    bad = ends.bad;
-    put = ends.put;
-    unpainted = refl;
-  }) (λ other. ends.stays) (λ other. ends.put.stays) (most_as ends.bad (most_all ends.bad ends.put.put))
+    cut = inr (bad_line ends PutsFront ends.put.put);
+  }) (λ other. ends.takes.stays) (λ other. absurd (other refl)) (most_as ends (most_part ends ends.put.put))
+      (inl (put_either (text ends) before.sink sink ends.put.put)) ends.put.later
+  ends_at_script stops.TooLong sound ends = runs_unput statuses.TooLong
+      (inr (at_script ends.1, ends.0.cause, named_so_long shelf sound ends.0.cause, ends.0.longer))
+      (λ other. ends.0.stays) ends.1
+  ends_at_script stops.Script sound ends = runs_script statuses.Script (bad_line ends PutsWhole ends.put)
+      (λ other. ends.takes.stays) (λ other. ends.put.stays) (most_as ends (most_all ends ends.put.put))
       (inr (refl, ends.put.room)) (omega (arith, ends.put.stays))
   ends_at_script stops.NoMemory sound ends = runs_unput statuses.NoMemory (record {
     memory = painting;
-    early = inr (name, at_script ends.0);
+    early = inr (at_script ends.0);
   }) (λ other. ends.1) ends.0
   ends_at_script stops.NotSeven sound ends = elim ends [ ]

@@ -1,5 +1,5 @@
 -- A known page, whatever is selected at the end, and the whole run.
-use Rattle.std.proofs.Common.{◌≡◌, ◌⊎◌, inl, inr, ℕ, ◌^◌, ◌<◌, ◌≤◌, Bool, true, false, List, take}
+use Rattle.std.proofs.Common.{◌≡◌, ◌⊎◌, inl, inr, ℕ, ◌^◌, ◌≤◌, Bool, true, false, List, take}
 use Rattle.std.proofs.Common.{Option, Some, None, is_some, Result, Ok, Err, refl, sym, ◌∙◌, ap, subst, arith}
 use Rattle.std.proofs.Common.{length}
 use Rattle.std.proofs.lemmas.Option.{none-some, same_Some}
@@ -9,9 +9,9 @@ use Rattle.cept_run.specs.declared.page.Stop.{Stop}
 use Rattle.cept_run.specs.declared.page.Stop.TheVariants as stops
 use Rattle.cept_run.specs.declared.run.Status.{Status}
 use Rattle.cept_run.specs.declared.run.Status.TheVariants as statuses
-use Rattle.cept_run.specs.Course.{Course, Source, File, Given, Gives, course_of}
+use Rattle.cept_run.specs.Course.{Course, Source, File, Gives, ScriptSource, NoScript, ScriptFile, course_of}
 use Rattle.cept_run.specs.Outside.{Outside}
-use Rattle.cept_run.specs.Run.{is_whole, ReportsFirst, EndsAtReadFault, IsPageTooLong, IsScriptTooLong, Ends, ReadsFiles}
+use Rattle.cept_run.specs.Run.{is_whole, ReportsFirst, EndsAtReadFault, IsPageTooLong, EndsAtScript, Ends, ReadsFiles}
 use Rattle.cept_run.specs.Run.{ReportsFront, TouchesShelf, RunsCourse, IsShortScript, IsUnreadable, Runs}
 use Rattle.cept_run.specs.Run.{status_at_end}
 use Rattle.cept_run.specs.Words.{Request, request_of}
@@ -50,57 +50,50 @@ first_of course name page before after paged holds other size first =
     subst (λ (b : List ℕ). ReportsFront course b before after)
     (first.front_is page (inl (subst (λ n. Holds before.shelf n page) (sym same) holds))) first.reports
 
-module _ (course : Course) (name own page : List ℕ) (before after : Outside) (paged : course.page ≡ File name)
-    (holds : Holds before.shelf name page) (alone : course.script ≡ Given own) where
-  not_script : (script : List ℕ) → course.script ≡ File script → ⊥
-  not_script script is = not_file own script (sym alone ∙ is)
-    where
-      not_file : (given other : List ℕ) → Given given ≡ File other → ⊥
-      not_file given other e = cc
+module _ (course : Course) (name page : List ℕ) (before after : Outside) (paged : course.page ≡ File name)
+    (holds : Holds before.shelf name page) (alone : course.script ≡ NoScript) where
+  not_script : (status : Status) → EndsAtScript course.script course.page before after status → ⊥
+  not_script status = subst (λ (s : ScriptSource). EndsAtScript s course.page before after status) alone
 
   unread_by : EndsAtReadFault course before after → ReportsFront course (take after.shelf.taken page) before after
   unread_by ends =
       elim ends.which [
-        | inl unread ↦ first_of course name page before after paged holds ends.name after.shelf.taken unread.first
-        | inr script ↦ absurd (not_script script.0 script.1.named)
+        | inl unread ↦ first_of course name page before after paged holds unread.name after.shelf.taken unread.first
+        | inr script ↦ absurd (not_script statuses.ReadFault script)
       ]
 
-  too_long_by : IsPageTooLong course before after ⊎ IsScriptTooLong course before after
+  too_long_by : IsPageTooLong course before after ⊎ EndsAtScript course.script course.page before after statuses.TooLong
       → ReportsFront course (take (2 ^ 24) page) before after
   too_long_by (inl ends) = first_of course name page before after paged holds ends.name (2 ^ 24) ends.first
-  too_long_by (inr ends) = absurd (not_script ends.name ends.at.named)
+  too_long_by (inr ends) = absurd (not_script statuses.TooLong ends)
 
-pub unread_reported : (words : List (List ℕ)) (request : Request) (name own page : List ℕ) (before after : Outside)
+pub unread_reported : (words : List (List ℕ)) (request : Request) (name page : List ℕ) (before after : Outside)
     → IsSound before.shelf → IsSound after.shelf → Runs words before after statuses.ReadFault
     → request_of words ≡ Some request → (course_of request).page ≡ File name → Holds before.shelf name page
-    → (course_of request).script ≡ Given own
+    → (course_of request).script ≡ NoScript
     → ReportsFront (course_of request) (take after.shelf.taken page) before after
-unread_reported words request name own page before after sound sound_after runs asked paged holds alone =
-    unread_by (course_of request) name own page before after paged holds alone (runs.request request asked).ends
+unread_reported words request name page before after sound sound_after runs asked paged holds alone =
+    unread_by (course_of request) name page before after paged holds alone (runs.request request asked).ends
 
-pub too_long_reported : (words : List (List ℕ)) (request : Request) (name own page : List ℕ) (before after : Outside)
+pub too_long_reported : (words : List (List ℕ)) (request : Request) (name page : List ℕ) (before after : Outside)
     → IsSound before.shelf → IsSound after.shelf → Runs words before after statuses.TooLong
     → request_of words ≡ Some request → (course_of request).page ≡ File name → Holds before.shelf name page
-    → (course_of request).script ≡ Given own
+    → (course_of request).script ≡ NoScript
     → ReportsFront (course_of request) (take (2 ^ 24) page) before after
-too_long_reported words request name own page before after sound sound_after runs asked paged holds alone =
-    too_long_by (course_of request) name own page before after paged holds alone (runs.request request asked).ends
+too_long_reported words request name page before after sound sound_after runs asked paged holds alone =
+    too_long_by (course_of request) name page before after paged holds alone (runs.request request asked).ends
 
 -- ---- the whole run
 
 -- a script that is short enough is not too long
-not_short : (shelf : ShelfState) (script : Source) (name : List ℕ) → script ≡ File name
-    → ((told : List ℕ) → Gives shelf name told → 2 ^ 20 < length told) → IsShortScript shelf script → ⊥
-not_short shelf (File other) name named longer short = omega (
-  arith,
-  short.2,
-  longer short.0
-      (subst (λ n. Gives shelf n short.0) (name_in other name named) short.1),
-)
-not_short shelf (Given own) name named longer short = cc
+not_short : (script : ScriptSource) (page : Source) (before after : Outside)
+    → EndsAtScript script page before after statuses.TooLong → IsShortScript before.shelf script → ⊥
+not_short NoScript page before after ends short = elim ends [ ]
+not_short (ScriptFile grammar name) page before after ends short = omega (arith, short.2, ends.3 short.0 short.1)
 
 not_too_long : (course : Course) (name page : List ℕ) (before after : Outside) → course.page ≡ File name
-    → IsPageTooLong course before after ⊎ IsScriptTooLong course before after → Gives before.shelf name page
+    → IsPageTooLong course before after ⊎ EndsAtScript course.script course.page before after statuses.TooLong
+    → Gives before.shelf name page
     → length page ≤ 2 ^ 24 → IsShortScript before.shelf course.script → ⊥
 not_too_long course name page before after paged (inl ends) given few short = omega (
   arith,
@@ -109,7 +102,7 @@ not_too_long course name page before after paged (inl ends) given few short = om
       (subst (λ n. Gives before.shelf n page) (name_in name ends.name (sym paged ∙ ends.first.named)) given),
 )
 not_too_long course name page before after paged (inr ends) given few short =
-    not_short before.shelf course.script ends.name ends.at.named ends.longer short
+    not_short course.script course.page before after ends short
 
 -- it is read to its end, or there is a cause
 completes_by : (course : Course) (name page : List ℕ) (before after : Outside) (status : Status)
@@ -190,5 +183,3 @@ ended words before after status P other runs by = by_request (request_of words) 
     by_request : (r : Option Request) → request_of words ≡ r → P
     by_request None is = absurd (other (runs.usage.1 is))
     by_request (Some request) is = by (course_of request) (runs.request request is).ends
-
--- ---- there is no memory

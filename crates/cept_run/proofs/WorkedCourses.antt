@@ -4,7 +4,7 @@ use Rattle.cept_run.specs.declared.words.BytesAction.TheVariants.{Eight, Seven}
 use Rattle.cept_run.specs.declared.words.NumberAction.TheVariants.{Generate, Load}
 use Rattle.cept_run.specs.declared.words.PageAction.TheVariants.{Cells, Changes, Check, List as ListItems, Show, Write}
 use Rattle.cept_run.specs.declared.words.ScriptAction.TheVariants.{Edit, Trace}
-use Rattle.cept_run.specs.Course.{File, Given, Source, course_of}
+use Rattle.cept_run.specs.Course.{File, Source, Scripts, Drawings, ScriptSource, NoScript, ScriptFile, course_of}
 use Rattle.cept_run.specs.Words.{Bytes, Drawing, Flash, Number, Page, Request, Script}
 use Rattle.cept_seven.specs.Eight.{accepted_after, is_shifted}
 
@@ -17,26 +17,26 @@ abbrev script : List ℕ
 script = codes "script"
 
 -- requests, each with where its page is read, and what is read before it
-abbrev read : List (Request × Source × Source) → Type 0
+abbrev read : List (Request × Source × ScriptSource) → Type 0
 read rows =
-    (map (λ (row : Request × Source × Source). (course_of row.0).page) rows
-    ≡ map (λ (row : Request × Source × Source). row.1) rows)
-    × (map (λ (row : Request × Source × Source). (course_of row.0).script) rows
-    ≡ map (λ (row : Request × Source × Source). row.2) rows)
+    (map (λ (row : Request × Source × ScriptSource). (course_of row.0).page) rows
+    ≡ map (λ (row : Request × Source × ScriptSource). row.1) rows)
+    × (map (λ (row : Request × Source × ScriptSource). (course_of row.0).script) rows
+    ≡ map (λ (row : Request × Source × ScriptSource). row.2) rows)
 
 sources : read (
-    (Page Changes page, File page, Given [])
-    ∷ (Page Check page, File page, Given [])
-    ∷ (Page ListItems page, File page, Given [])
-    ∷ (Page Show page, File page, Given [])
-    ∷ (Page Cells page, File page, Given [])
-    ∷ (Page Write page, File page, Given [])
-    ∷ (Script Trace page script, File page, File script)
-    ∷ (Script Edit page script, File page, File script)
-    ∷ (Bytes Seven page, File page, Given [])
-    ∷ (Bytes Eight page, File page, Given [])
-    ∷ (Flash page 6, File page, Given [])
-    ∷ (Drawing page script, File page, File script) ∷ [])
+    (Page Changes page, File page, NoScript)
+    ∷ (Page Check page, File page, NoScript)
+    ∷ (Page ListItems page, File page, NoScript)
+    ∷ (Page Show page, File page, NoScript)
+    ∷ (Page Cells page, File page, NoScript)
+    ∷ (Page Write page, File page, NoScript)
+    ∷ (Script Trace page script, File page, ScriptFile Scripts script)
+    ∷ (Script Edit page script, File page, ScriptFile Scripts script)
+    ∷ (Bytes Seven page, File page, NoScript)
+    ∷ (Bytes Eight page, File page, NoScript)
+    ∷ (Flash page 6, File page, NoScript)
+    ∷ (Drawing page script, File page, ScriptFile Drawings script) ∷ [])
 sources = (refl, refl)
 
 -- ---- statuses

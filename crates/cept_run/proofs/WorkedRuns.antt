@@ -15,7 +15,6 @@ use Rattle.cept_parser.specs.Units.{drcs_planes, drcs_unit, drcs_width, format, 
 use Rattle.cept_parser.specs.Units.{us_position, us_unit}
 use Rattle.cept_editor.specs.Events.{report}
 use Rattle.cept_editor.specs.Meaning.{hex_bytes, line_meaning}
-use Rattle.cept_editor.specs.Script.{edits_from}
 use Rattle.cept_editor.specs.Table.{row_of}
 use Rattle.cept_plot.specs.Drawings.{figure_of, line_meaning as figure_meaning}
 use Rattle.cept_report.specs.Text.{line_reason_name, line_reason_number, reason_name, reason_number}
@@ -25,11 +24,10 @@ use Rattle.cept_seven.specs.Eight.{accepted_after, eight_after, is_shifted}
 use Rattle.cept_seven.specs.Seven.{texts}
 use Rattle.cept_run.specs.declared.words.BytesAction.TheVariants.{Eight, Seven}
 use Rattle.cept_run.specs.declared.words.PageAction.TheVariants.{Check, List as ListItems}
-use Rattle.cept_run.specs.declared.words.ScriptAction.TheVariants.{Edit, Trace}
-use Rattle.cept_run.specs.Course.{course_of}
-use Rattle.cept_run.specs.Events.{item_events, script_events}
+use Rattle.cept_run.specs.Course.{Grammar, Scripts, Drawings, first_fault_in, course_of}
+use Rattle.cept_run.specs.Events.{item_events}
 use Rattle.cept_run.specs.Run.{fault_text, report_of}
-use Rattle.cept_run.specs.Words.{Bytes, Drawing, Page, Request, Script}
+use Rattle.cept_run.specs.Words.{Bytes, Page, Request}
 
 -- what pages and scripts compute with: where this name stands on a line `unfolding`, each definition of its own line unfolds
 unfoldable reading_computes : Unit {0}
@@ -42,9 +40,6 @@ reading_computes = tt
 
 abbrev page : List ℕ
 page = codes "page"
-
-abbrev script : List ℕ
-script = codes "script"
 
 -- pages, each with the report of a request, which reads no script
 abbrev are_told : Request → List (List ℕ × List ℕ) → Type 0
@@ -59,7 +54,7 @@ without_refusals : are_told (Page Check page) (
     ∷ (0x1F ∷ 0x2D ∷ 0x42 ∷ 0x0D ∷ [], codes "items 2 refused 0\n")
     ∷ (0x1F ∷ 0x2D ∷ 0x0D ∷ [], codes "items 2 refused 0\n")
     ∷ (0x41 ∷ 0x1F ∷ 0x41 ∷ 0x41 ∷ 0x41 ∷ [], codes "items 3 refused 0\n") ∷ [])
-unfolding reading_computes report item_events script_events edits_from digits
+unfolding reading_computes report item_events digits
 without_refusals = refl
 
 -- each of the seven reasons, by its number and its name
@@ -72,7 +67,7 @@ with_refusals : are_told (Page Check page) (
     ∷ (0x9B ∷ 0x31 ∷ 0x0D ∷ 0x42 ∷ [], codes "! 0 2 6 Interrupted\nitems 3 refused 1\n")
     ∷ (0x1B ∷ [], codes "! 0 1 7 Truncated\nitems 1 refused 1\n")
     ∷ (0x41 ∷ 0x1C ∷ [], codes "! 1 1 1 UnassignedControl\nitems 2 refused 1\n") ∷ [])
-unfolding reading_computes report item_events script_events edits_from digits reason_number reason_name
+unfolding reading_computes report item_events digits reason_number reason_name
 with_refusals = refl
 
 -- ---- `list`: a line for each item, also of bytes that are passed over and of refused ones
@@ -87,7 +82,7 @@ items_listed : are_told (Page ListItems page) (
       0x91 ∷ 0x9B ∷ 0x31 ∷ 0x0D ∷ 0x1F ∷ 0x45 ∷ 0x47 ∷ 0x1B ∷ [],
       codes "0 1 C1 9/1 MSR RDB\n1 2 REFUSED Interrupted\n3 1 APR\n4 3 APA 5 7\n7 1 REFUSED Truncated\n",
     ) ∷ [])
-unfolding reading_computes report item_events script_events edits_from digits said_text command_text reason_name
+unfolding reading_computes report item_events digits said_text command_text reason_name
 items_listed = refl
 
 -- ---- `seven` and `eight`: a right byte between SO and SI, a C1 code as two bytes, and a quoted SO; and back
@@ -117,13 +112,13 @@ in_eight = refl
 -- ---- the line of a script's first fault
 
 -- scripts, each with the line that is put of it in place of a report
-abbrev are_faulty : Request → List (List ℕ × List ℕ) → Type 0
-are_faulty request rows =
-    map (λ (row : List ℕ × List ℕ). option_map fault_text ((course_of request).fault row.0)) rows
+abbrev are_faulty : Grammar → List (List ℕ × List ℕ) → Type 0
+are_faulty grammar rows =
+    map (λ (row : List ℕ × List ℕ). option_map fault_text (first_fault_in grammar row.0)) rows
     ≡ map (λ (row : List ℕ × List ℕ). Some row.1) rows
 
 -- of a script of edits
-faults_of_scripts : are_faulty (Script Trace page script) (
+faults_of_scripts : are_faulty Scripts (
     (codes "at 1 1\nat 25 1", codes "script line 2: 3 BadNumber\n")
     ∷ (codes "# a\n\nfrob", codes "script line 3: 1 UnknownWord\n")
     ∷ (codes "undo 1\nfrob", codes "script line 1: 2 WrongCount\n")
@@ -132,11 +127,8 @@ faults_of_scripts : are_faulty (Script Trace page script) (
 unfolding fault_from line_meaning row_of hex_bytes digits line_reason_number line_reason_name
 faults_of_scripts = refl
 
-same_of_edit : (course_of (Script Edit page script)).fault ≡ (course_of (Script Trace page script)).fault
-same_of_edit = refl
-
 -- of a drawing
-faults_of_drawings : are_faulty (Drawing page script) (
+faults_of_drawings : are_faulty Drawings (
     (codes "plot 0 0\nplot 80 0", codes "script line 2: 3 BadNumber\n")
     ∷ (codes "plot 0 72", codes "script line 1: 3 BadNumber\n")
     ∷ (codes "plot 80", codes "script line 1: 2 WrongCount\n")

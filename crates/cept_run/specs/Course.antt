@@ -1,6 +1,7 @@
 -- The course of a run: what it reads, the events of what it read, and what decides how it ends. Each request is one, and what
 -- a run does is said of its course alone. This project's own.
 use Rattle.std.specs.Prelude.{◌≡◌, ◌⊎◌, ℕ, Bool, true, false, not, ◌&&◌, List, [], ◌∷◌, Option, Some, None, is_some}
+use Rattle.std.specs.Prelude.{◌^◌, ◌≤◌, length}
 use Rattle.cept_codes.specs.declared.command.Command.{Command}
 use Rattle.cept_codes.specs.declared.look.Look.{Look}
 use Rattle.cept_editor.specs.Events.{Event}
@@ -16,7 +17,7 @@ use Rattle.cept_run.specs.declared.words.End.{End}
 use Rattle.cept_run.specs.declared.words.End.TheVariants as ends
 use Rattle.cept_run.specs.declared.words.NumberAction.{NumberAction}
 use Rattle.cept_run.specs.declared.words.NumberAction.TheVariants as numbers
-use Rattle.cept_run.specs.Events.{history, item_events, run_events, remaining_of, Sequel, Edits, Figures}
+use Rattle.cept_run.specs.Events.{history, item_events, run_events, remaining_of, Sequel, NoSequel, Edits, Figures}
 use Rattle.cept_run.specs.Converted.{converted, converted_front, readable_front, can_end_there}
 use Rattle.cept_run.specs.Words.{Request, Page, Bytes, Script, Number, Flash, Drawing, options_of_page, options_of_script}
 use Rattle.cept_run.specs.Words.{options_to_load, options_of_phases, options_to_draw, is_painted, lists_changes}
@@ -45,7 +46,7 @@ SelectsNoOther name shelf =
 
 -- ---- scripts and drawings
 
--- the grammar of what is read before a page: that of scripts, or that of drawings
+-- the grammar of a script: that of edits, or that of drawings, of which all holds that is said of scripts
 pub data Grammar : Type 0 where
   Scripts : Grammar
   Drawings : Grammar
@@ -55,24 +56,33 @@ abbrev pub first_fault_in : Grammar → List ℕ → Option Fault
 first_fault_in Scripts bytes = first_fault bytes
 first_fault_in Drawings bytes = first_fault_of_drawing bytes
 
--- what bytes within the grammar say is done after a page
-abbrev pub sequel_in : Grammar → List ℕ → Sequel
-sequel_in Scripts bytes = Edits (edits bytes)
-sequel_in Drawings bytes = Figures (figures_of bytes)
+-- what is read before a page: nothing, or a script of this grammar in the file of this name
+pub data ScriptSource : Type 0 where
+  NoScript : ScriptSource
+  ScriptFile : Grammar → List ℕ → ScriptSource
+
+-- what its bytes say is done after a page, where they are within the grammar
+abbrev pub sequel_in : ScriptSource → List ℕ → Sequel
+sequel_in NoScript bytes = NoSequel
+sequel_in (ScriptFile Scripts name) bytes = Edits (edits bytes)
+sequel_in (ScriptFile Drawings name) bytes = Figures (figures_of bytes)
+
+-- these bytes are read before a page: none; or those of the file, at most 2^20, of which no line is outside the grammar
+abbrev pub IsReadFirst : ShelfState → ScriptSource → List ℕ → Type 0
+IsReadFirst shelf NoScript bytes = bytes ≡ []
+IsReadFirst shelf (ScriptFile grammar name) bytes =
+    HasBytes shelf (File name) bytes × (first_fault_in grammar bytes ≡ None) × (length bytes ≤ 2 ^ 20)
 
 -- ---- courses
 
 pub record Course : Type 0 where
-  -- the page that is read, and the script that is read before it, or the drawing: all that is said of a script holds of it
+  -- the page that is read, and what is read before it
   pub page : Source
-  pub script : Source
-  -- the first fault of a script
-  pub fault : List ℕ → Option Fault
+  pub script : ScriptSource
   -- the events of these bytes, the front of a page, and the commands that remain after them
   pub front_events : List ℕ → List Event
   pub front_remaining : List ℕ → List Command
-  -- all events of a page and a script that are read to their ends, where the glass shows this grid at the end, and the
-  -- commands that remain after them
+  -- all events of page and script read to their ends, where the glass shows this grid at the end, and what then remains
   pub events : List ℕ → List ℕ → List (List Look) → List Event
   pub remaining : List ℕ → List ℕ → List Command
   -- the longest front of a page that can be read, and whether a page can end there
@@ -96,15 +106,14 @@ puts_page options =
     is_painted options.way && is_page options.end && not (lists_changes options.way) && not options.refusals && not options.edits_listed
 
 -- items are reported, and then what a script or a drawing says is done
-abbrev pub report_course : ReportOptions → Grammar → Source → Source → Course
-report_course options grammar page script = record {
+abbrev pub report_course : ReportOptions → Source → ScriptSource → Course
+report_course options page script = record {
   page = page;
   script = script;
-  fault = first_fault_in grammar;
   front_events = λ bytes. item_events options (items bytes);
   front_remaining = λ bytes. history options (items bytes);
-  events = λ bytes lines shown. run_events options bytes (sequel_in grammar lines) shown;
-  remaining = λ bytes lines. remaining_of options bytes (sequel_in grammar lines);
+  events = λ bytes lines shown. run_events options bytes (sequel_in script lines) shown;
+  remaining = λ bytes lines. remaining_of options bytes (sequel_in script lines);
   readable_front = λ bytes. bytes;
   can_end = λ bytes. true;
   judged = true;
@@ -120,8 +129,7 @@ text_event text = record { before = []; after = []; text = text }
 abbrev pub plain_course : Source → Course
 plain_course page = record {
   page = page;
-  script = Given [];
-  fault = first_fault;
+  script = NoScript;
   front_events = λ bytes. text_event bytes ∷ [];
   front_remaining = λ bytes. [];
   events = λ bytes lines shown. text_event bytes ∷ [];
@@ -145,13 +153,13 @@ conversion_course action page = record (plain_course (File page)) {
 -- of a generated page
 abbrev pub course_of_number : NumberAction → ℕ → Course
 course_of_number numbers.Generate number = plain_course (Given (generated number))
-course_of_number numbers.Load number = report_course options_to_load Scripts (Given (generated number)) (Given [])
+course_of_number numbers.Load number = report_course options_to_load (Given (generated number)) NoScript
 
 -- the course of each request
 abbrev pub course_of : Request → Course
-course_of (Page action page) = report_course (options_of_page action) Scripts (File page) (Given [])
+course_of (Page action page) = report_course (options_of_page action) (File page) NoScript
 course_of (Bytes action page) = conversion_course action page
-course_of (Script action page script) = report_course (options_of_script action) Scripts (File page) (File script)
+course_of (Script action page script) = report_course (options_of_script action) (File page) (ScriptFile Scripts script)
 course_of (Number action number) = course_of_number action number
-course_of (Flash page turns) = report_course (options_of_phases turns) Scripts (File page) (Given [])
-course_of (Drawing page drawing) = report_course options_to_draw Drawings (File page) (File drawing)
+course_of (Flash page turns) = report_course (options_of_phases turns) (File page) NoScript
+course_of (Drawing page drawing) = report_course options_to_draw (File page) (ScriptFile Drawings drawing)

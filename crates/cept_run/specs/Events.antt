@@ -103,8 +103,7 @@ painted_end ends.Counts options shown page commands =
     load_line (length page) (length (closed_items page)) (painted_count options (closed_items page))
 painted_end (ends.Phases turns) options shown page commands = phase_lines (grid commands) turns
 
--- what is put at the end of a page that wasn't painted: how many items there are and how many are refused, where these
--- are counted
+-- what is put at the end of a page that wasn't painted: how many items it has, and how many refused, where counted
 abbrev pub counts_text : Way → ℕ → ℕ → List ℕ
 counts_text ways.Count items refused = check_line items refused
 counts_text _ items refused = []
@@ -141,27 +140,25 @@ script_events listed page lines =
 
 -- ---- what is done after a page
 
--- the edits of a script are made, or the figures of a drawing drawn
+-- nothing; or the edits of a script are made, or the figures of a drawing drawn
 pub data Sequel : Type 0 where
+  NoSequel : Sequel
   Edits : List EditLine → Sequel
   Figures : List Figure → Sequel
-
--- nothing: no edits
-abbrev pub nothing_more : Sequel
-nothing_more = Edits []
 
 -- the commands that draw figures on a page of these commands: they leave the points of its field, changed by the figures
 abbrev pub drawing_commands : List Command → List Figure → List Command
 drawing_commands page figures = drawn (core page) (points_after_all (is_in_field (core page)) figures)
 
--- its events after a page's commands. Of the edits of a script the changes are listed or not; a drawing has one event for
--- each of its commands, of no text
+-- its events after a page's commands: edits are listed or not; a drawing has an event of no text for each command
 abbrev pub sequel_events : Bool → List Command → Sequel → List Event
+sequel_events listed page NoSequel = []
 sequel_events listed page (Edits lines) = script_events listed page lines
 sequel_events listed page (Figures figures) = edit_events false 0 page (drawing_commands page figures)
 
 -- the commands that remain after it: those of the page, and those of the edits that are kept or of the drawing
 abbrev pub remaining_after : List Command → Sequel → List Command
+remaining_after page NoSequel = page
 remaining_after page (Edits lines) = remaining page (kept_of lines)
 remaining_after page (Figures figures) = page ++ drawing_commands page figures
 
@@ -176,8 +173,7 @@ abbrev pub edited_events : ReportOptions → List Item → Sequel → List Event
 edited_events options items sequel =
     item_events options items ++ sequel_events options.edits_listed (history options items) sequel
 
--- all events of a run over a page that is read to its end, and over what is done after it, where the glass shows this grid
--- at the end
+-- all events of a run over a page read to its end and what is done after it, where the glass shows this grid at the end
 abbrev pub run_events : ReportOptions → List ℕ → Sequel → List (List Look) → List Event
 run_events options page sequel shown =
     edited_events options (closed_items page) sequel

@@ -24,7 +24,7 @@ use Rattle.cept_run.specs.declared.words.End.TheVariants as ends
 use Rattle.cept_run.specs.Words.{is_counted, is_painted}
 use Rattle.cept_run.specs.Events.{history, item_events, refused_count, painted_count, kept_of, script_events}
 use Rattle.cept_run.specs.Events.{edited_events}
-use Rattle.cept_run.specs.Events.{Sequel, Edits, Figures, nothing_more, drawing_commands, sequel_events}
+use Rattle.cept_run.specs.Events.{Sequel, NoSequel, Edits, Figures, drawing_commands, sequel_events}
 use Rattle.cept_run.specs.Events.{remaining_after}
 
 -- ---- the reporter of items
@@ -34,19 +34,14 @@ abbrev pub HasBlink : End → Option FlashingGrid → Type 0
 HasBlink (ends.Phases turns) blink = IsSome blink
 HasBlink _ blink = Unit {0}
 
--- how a page is reported, and what is done after it by the script or the drawing, if there is one
+-- how a page is reported, and what is done after it
 pub record Plan : Type 0 where
   pub options : ReportOptions
-  pub sequel : Option Sequel
-
--- what is done after it, if anything is
-abbrev pub sequel_if_any : Option Sequel → Sequel
-sequel_if_any None = nothing_more
-sequel_if_any (Some sequel) = sequel
+  pub sequel : Sequel
 
 -- what is done after it: where nothing is painted, nothing
 abbrev pub sequel_of : Plan → Sequel
-sequel_of plan = if is_painted plan.options.way then sequel_if_any plan.sequel else nothing_more
+sequel_of plan = if is_painted plan.options.way then plan.sequel else NoSequel
 
 -- the options, what commands are applied to, how many items there were and were refused, and how many places were
 -- painted, where these are counted
@@ -59,11 +54,11 @@ pub record ReporterState : Type 0 where
 
 -- what the commands of a page are applied to, after these: where there is a script, a screen whose edits can be taken back;
 -- where there is a drawing, a screen and the drawing
-abbrev pub painted_target : Option Sequel → List Command → Target
-painted_target None commands = targets.Screen (state commands)
-painted_target (Some (Edits lines)) commands =
+abbrev pub painted_target : Sequel → List Command → Target
+painted_target NoSequel commands = targets.Screen (state commands)
+painted_target (Edits lines) commands =
     targets.Editor (record { screen = state commands; past = []; future = [] }) lines
-painted_target (Some (Figures figures)) commands = targets.Drawing (state commands) figures
+painted_target (Figures figures) commands = targets.Drawing (state commands) figures
 
 -- what commands are applied to, after these
 abbrev pub target_at : Plan → List Command → Target
@@ -76,11 +71,11 @@ screen_of (targets.Screen screen) = Some screen
 screen_of (targets.Editor editor lines) = Some editor.screen
 screen_of (targets.Drawing screen figures) = Some screen
 
--- what is done after a page, where there is a script or a drawing
-abbrev pub sequel_at : Target → Option Sequel
-sequel_at (targets.Editor editor lines) = Some (Edits lines)
-sequel_at (targets.Drawing screen figures) = Some (Figures figures)
-sequel_at _ = None
+-- what is done after a page
+abbrev pub sequel_at : Target → Sequel
+sequel_at (targets.Editor editor lines) = Edits lines
+sequel_at (targets.Drawing screen figures) = Figures figures
+sequel_at _ = NoSequel
 
 -- the plan by which it reports
 abbrev pub plan_in : ReporterState → Plan
@@ -107,7 +102,7 @@ pub record HasReported (plan : Plan) (reporter : ReporterState) (reported : List
   pub stays : now.sink.faults ≡ start.sink.faults
 
 -- a command was applied after these, where they are painted
-pub record IsAppliedAfter (sequel : Option Sequel) (earlier : List Command) (command : Command) (before : GlassState)
+pub record IsAppliedAfter (sequel : Sequel) (earlier : List Command) (command : Command) (before : GlassState)
     (target : Target) (marks : List Bool) (after : GlassState) : Type 0 where
   pub target_is : target ≡ painted_target sequel (earlier ++ command ∷ [])
   pub marked : marks ≡ differences (grid earlier) (grid (earlier ++ command ∷ []))
@@ -117,7 +112,7 @@ pub record IsAppliedAfter (sequel : Option Sequel) (earlier : List Command) (com
 -- a command is applied, where there is a screen
 pub record AppliesOn (old : Target) (command : Command) (before : GlassState) (new : Target) (marks : List Bool)
     (after : GlassState) : Type 0 where
-  pub painted : (sequel : Option Sequel) (earlier : List Command) → AllValid earlier
+  pub painted : (sequel : Sequel) (earlier : List Command) → AllValid earlier
       → old ≡ painted_target sequel earlier → IsAppliedAfter sequel earlier command before new marks after
   pub idle : old ≡ targets.Nothing → (new ≡ targets.Nothing) × (after ≡ before)
 

@@ -1,6 +1,6 @@
 -- The ends of a run, and what a run does by its end. This project's own.
 use Rattle.std.specs.Prelude.{◌≡◌, ◌≢◌, ◌↔◌, ◌⊎◌, ℕ, ◌^◌, ◌<◌, ◌≤◌, Bool, true, false, ◌&&◌, List, [], ◌∷◌, ◌++◌, length, take}
-use Rattle.std.specs.Prelude.{min, Option, Some, None, IsSome, Result, Ok, Err, if◌then◌else◌}
+use Rattle.std.specs.Prelude.{min, Some, None, IsSome, Result, Ok, Err, if◌then◌else◌}
 use Rattle.std.specs.Io.KnownBytes.{append_known}
 use Rattle.std.specs.List.{AllByRecursion}
 use Rattle.cept_codes.specs.declared.command.Command.{Command}
@@ -9,7 +9,7 @@ use Rattle.cept_editor.specs.Made.{ArePainted, AreMade, AreCutOff}
 use Rattle.cept_words.specs.Faults.{Fault}
 use Rattle.cept_outside.specs.Causes.{Rose}
 use Rattle.cept_outside.specs.ShelfState.{ShelfState, Holds, KeepsFiles, bytes_under}
-use Rattle.cept_outside.specs.SinkState.{HasPut}
+use Rattle.cept_outside.specs.SinkState.{SinkState, HasPut}
 use Rattle.cept_parser.specs.Items.{closed_items, commands, is_refusal}
 use Rattle.cept_profile.specs.Changes.{grid_with_paints}
 use Rattle.cept_profile.specs.Look.{grid}
@@ -20,6 +20,7 @@ use Rattle.cept_run.specs.declared.page.Stop.TheVariants as stops
 use Rattle.cept_run.specs.declared.run.Status.{Status}
 use Rattle.cept_run.specs.declared.run.Status.TheVariants as statuses
 use Rattle.cept_run.specs.Course.{Course, Source, File, Given, Gives, HasBytes, SelectsNoOther, course_of}
+use Rattle.cept_run.specs.Course.{Grammar, first_fault_in, ScriptSource, NoScript, ScriptFile, IsReadFirst}
 use Rattle.cept_run.specs.Events.{has_refusal}
 use Rattle.cept_run.specs.Outside.{Outside, output, AreAllTaken, PutsWhole, PutsFront}
 use Rattle.cept_run.specs.Words.{Request, request_of}
@@ -59,8 +60,7 @@ pub record ReportsWhole (course : Course) (page script : List ℕ) (before after
       → grid_with_paints before.glass.grid (paints (done ++ event ∷ [])) ≡ grid event.after
   -- and at the end what all mean that remain
   pub meaning : before.glass.grid ≡ grid [] → after.glass.grid ≡ grid (course.remaining page script)
-  -- a page that is written shows on a reset decoder what the glass shows: it has no refused item, and its commands bring
-  -- the same core
+  -- a written page shows on a reset decoder what the glass shows: no item of it is refused, and it brings the same core
   pub written : course.written ≡ true
       → Restores (report (course.events page script after.glass.grid)) (course.remaining page script)
 
@@ -71,58 +71,59 @@ pub record ReportsFront (course : Course) (front : List ℕ) (before after : Out
   -- so a glass that was blank shows its meaning
   pub meaning : before.glass.grid ≡ grid [] → after.glass.grid ≡ grid (course.front_remaining front)
 
--- ---- the ends: what was read are bytes of which all is made that was put and painted; they are those of the files, where
--- the shelf tells them
+-- ---- the ends: all that was put and painted is made of what was read, the files' bytes where the shelf tells them
 
 -- status 0 or 1: the page was read to its end, and this says whether an item in it is refused
 pub record EndsWhole (course : Course) (before after : Outside) (refused : Bool) : Type 0 where
   pub page : List ℕ
   pub page_is : HasBytes before.shelf course.page page
   pub script : List ℕ
-  pub script_is : HasBytes before.shelf course.script script
-  -- the whole page is reported and the whole script made, in whatever pieces the shelf gives them and the sink takes the
-  -- text
+  pub script_is : IsReadFirst before.shelf course.script script
+  -- the whole page is reported and the whole script made, in whatever pieces they come and the sink takes the text
   pub reports : ReportsWhole course page script before after
   pub refusals : refused ≡ (course.judged && has_refusal (closed_items page))
   -- it can be read, and end there
   pub readable : course.readable_front page ≡ page
   pub can_end : course.can_end page ≡ true
-  -- no line of the script is outside the grammar
-  pub good : course.fault script ≡ None
   pub page_not_too_long : length page ≤ 2 ^ 24
-  pub script_not_too_long : length script ≤ 2 ^ 20
   -- of a page in a file all bytes were taken, and no other is selected
   pub taken : (name : List ℕ) → course.page ≡ File name → AreAllTaken page after.shelf × SelectsNoOther name after.shelf
 
--- the script is in a file, and a line of it is outside the grammar: the first one has this fault
-pub record HasBadLine (fault_in : List ℕ → Option Fault) (source : Source) (before after : ShelfState) : Type 0 where
-  pub name : List ℕ
-  pub named : source ≡ File name
-  pub script : List ℕ
-  pub script_is : HasBytes before (File name) script
-  pub fault : Fault
-  pub found : fault_in script ≡ Some fault
-  pub not_too_long : length script ≤ 2 ^ 20
-  pub taken : AreAllTaken script after
-
--- the line that says so
+-- the line that says of a script what its first fault is
 abbrev pub fault_text : Fault → List ℕ
 fault_text fault = script_fault_line fault.line fault.reason
 
--- status 3: a line of the script is outside the grammar. The line that says so was put and flushed, and nothing else
-pub record EndsAtBadLine (course : Course) (before after : Outside) : Type 0 where
-  pub bad : HasBadLine course.fault course.script before.shelf after.shelf
-  pub put : PutsWhole (fault_text bad.fault) before.sink after.sink
+-- a line of the script is outside the grammar. Of the line that says so this was put, and nothing else, and nothing painted
+pub record EndsAtBadLine (Puts : List ℕ → SinkState → SinkState → Type 0) (grammar : Grammar) (name : List ℕ)
+    (before after : Outside) : Type 0 where
+  pub script : List ℕ
+  pub script_is : HasBytes before.shelf (File name) script
+  pub fault : Fault
+  pub found : first_fault_in grammar script ≡ Some fault
+  pub not_too_long : length script ≤ 2 ^ 20
+  pub taken : AreAllTaken script after.shelf
+  pub put : Puts (fault_text fault) before.sink after.sink
   pub unpainted : after.glass ≡ before.glass
 
--- the run stands at the script, which is in a file: nothing was put and nothing painted
-pub record IsAtScript (course : Course) (name : List ℕ) (before after : Outside) : Type 0 where
-  pub named : course.script ≡ File name
-  -- no other name is selected, nor is the page
+-- the run stands at the script in the file of this name: nothing was put and nothing painted, and no other name is selected
+pub record IsAtScript (name : List ℕ) (page : Source) (before after : Outside) : Type 0 where
+  pub unmade : output after ≡ output before
   pub selected : SelectsNoOther name after.shelf
-  pub unselected : (page : List ℕ) → course.page ≡ File page → after.shelf.selected ≢ Some (Some page)
-  pub unput : after.sink ≡ before.sink
-  pub unpainted : after.glass ≡ before.glass
+  pub page_unselected : (other : List ℕ) × (page ≡ File other) × (after.shelf.selected ≢ Some (Some other))
+
+-- a run ends at the script, before this page, by its status
+abbrev pub EndsAtScript : ScriptSource → Source → Outside → Outside → Status → Type 0
+EndsAtScript (ScriptFile grammar name) page before after statuses.Script =
+    EndsAtBadLine PutsWhole grammar name before after
+EndsAtScript (ScriptFile grammar name) page before after statuses.ReadFault =
+    IsAtScript name page before after × (after.shelf.taken ≤ 2 ^ 20)
+EndsAtScript (ScriptFile grammar name) page before after statuses.WriteFault =
+    EndsAtBadLine PutsFront grammar name before after
+EndsAtScript (ScriptFile grammar name) page before after statuses.NoMemory = IsAtScript name page before after
+EndsAtScript (ScriptFile grammar name) page before after statuses.TooLong = IsAtScript name page before after
+    × (2 ^ 20 < after.shelf.taken) × (after.shelf.selected ≢ Some None)
+    × ((script : List ℕ) → Gives before.shelf name script → 2 ^ 20 < length script)
+EndsAtScript _ page before after _ = ⊥
 
 -- of the page in the file of this name exactly the first bytes are reported, so many
 pub record ReportsFirst (course : Course) (name : List ℕ) (size : ℕ) (before after : Outside) : Type 0 where
@@ -135,7 +136,8 @@ pub record ReportsFirst (course : Course) (name : List ℕ) (size : ℕ) (before
   pub selected : SelectsNoOther name after.shelf
 
 -- status 4, at the page: it can't be read on. Its bytes that were taken are reported
-pub record IsPageUnread (course : Course) (name : List ℕ) (before after : Outside) : Type 0 where
+pub record IsPageUnread (course : Course) (before after : Outside) : Type 0 where
+  pub name : List ℕ
   pub first : ReportsFirst course name after.shelf.taken before after
   pub readable : course.readable_front first.front ≡ first.front
   pub few : after.shelf.taken ≤ 2 ^ 24
@@ -148,11 +150,7 @@ pub record EndsAtReadFault (course : Course) (before after : Outside) : Type 0 w
   pub read_fault : Rose before.shelf.faults after.shelf.faults
   -- no take had answered that there are no more bytes
   pub unended : after.shelf.ended ≡ false
-  -- the page is in a file
-  pub name : List ℕ
-  pub named : course.page ≡ File name
-  pub which : IsPageUnread course name before after
-      ⊎ ((script : List ℕ) × IsAtScript course script before after × (after.shelf.taken ≤ 2 ^ 20))
+  pub which : IsPageUnread course before after ⊎ EndsAtScript course.script course.page before after statuses.ReadFault
 
 -- the sink failed at an event of the bytes that were taken, a front of the page; of these 2^24 are reported at most
 pub record IsFrontCut (course : Course) (page : List ℕ) (before after : Outside) : Type 0 where
@@ -165,11 +163,8 @@ pub record IsReportCut (course : Course) (before after : Outside) : Type 0 where
   pub page : List ℕ
   pub page_is : HasBytes before.shelf course.page page
   pub script : List ℕ
-  pub script_is : HasBytes before.shelf course.script script
-  pub good : course.fault script ≡ None
-  pub script_not_too_long : length script ≤ 2 ^ 20
-  -- at one event, which was painted and no later one; or the report was put of a page that can be read and end there, and
-  -- the flush failed, as it can
+  pub script_is : IsReadFirst before.shelf course.script script
+  -- at one event, painted as the last; or the report was put of a page that can be read and end, and the flush failed
   pub cut : AreCutOff (course.events page script after.glass.grid) (output before) (output after)
       ⊎ (AreMade (course.events page script after.glass.grid) (output before) (output after)
       × (before.sink.always_flushes ≡ false) × (course.readable_front page ≡ page) × (course.can_end page ≡ true))
@@ -179,44 +174,28 @@ pub record IsReportCut (course : Course) (before after : Outside) : Type 0 where
   pub taken : (name : List ℕ) → course.page ≡ File name → SelectsNoOther name after.shelf
       × ((AreAllTaken page after.shelf × (length page ≤ 2 ^ 24)) ⊎ IsFrontCut course page before after)
 
--- the sink failed at the line of a script's fault: a front of it was put, and nothing painted
-pub record IsFaultCut (course : Course) (before after : Outside) : Type 0 where
-  pub bad : HasBadLine course.fault course.script before.shelf after.shelf
-  pub put : PutsFront (fault_text bad.fault) before.sink after.sink
-  pub unpainted : after.glass ≡ before.glass
-
 -- status 5: the sink failed
 pub record EndsAtWriteFault (course : Course) (before after : Outside) : Type 0 where
   -- the sink counted a fault
   pub write_fault : Rose before.sink.faults after.sink.faults
-  pub cut : IsReportCut course before after ⊎ IsFaultCut course before after
+  pub cut : IsReportCut course before after ⊎ EndsAtScript course.script course.page before after statuses.WriteFault
 
 -- status 6: there is no memory
 pub record EndsWithoutMemory (course : Course) (before after : Outside) : Type 0 where
   -- what paints nothing takes none
   pub memory : course.painting ≡ true
   -- nothing was touched; or the script was being read
-  pub early : (after ≡ before) ⊎ ((script : List ℕ) × IsAtScript course script before after)
+  pub early : (after ≡ before) ⊎ EndsAtScript course.script course.page before after statuses.NoMemory
 
--- status 7, at the page: it has more than 2^24 bytes
+-- status 7, at the page: it has more than 2^24 bytes, and more were taken
 pub record IsPageTooLong (course : Course) (before after : Outside) : Type 0 where
   pub name : List ℕ
-  -- more were taken, of the page
   pub too_long : 2 ^ 24 < after.shelf.taken
   pub selected : after.shelf.selected ≢ Some None
   -- so a page within the limit, that is told, never ends so
   pub longer : (page : List ℕ) → Gives before.shelf name page → 2 ^ 24 < length page
   pub first : ReportsFirst course name (2 ^ 24) before after
   pub readable : course.readable_front first.front ≡ first.front
-
--- status 7, at the script: it has more than 2^20 bytes
-pub record IsScriptTooLong (course : Course) (before after : Outside) : Type 0 where
-  pub name : List ℕ
-  -- more were taken, of the script
-  pub too_long : 2 ^ 20 < after.shelf.taken
-  pub selected : after.shelf.selected ≢ Some None
-  pub longer : (script : List ℕ) → Gives before.shelf name script → 2 ^ 20 < length script
-  pub at : IsAtScript course name before after
 
 -- a page can't be read to its end, or can't end there
 abbrev pub IsUnreadable : Course → List ℕ → Type 0
@@ -238,29 +217,25 @@ abbrev pub Ends : Course → Outside → Outside → Status → Type 0
 Ends course before after statuses.Done = EndsWhole course before after false
 Ends course before after statuses.Refusals = EndsWhole course before after true
 Ends course before after statuses.Usage = ⊥
-Ends course before after statuses.Script = EndsAtBadLine course before after
+Ends course before after statuses.Script = EndsAtScript course.script course.page before after statuses.Script
 Ends course before after statuses.ReadFault = EndsAtReadFault course before after
 Ends course before after statuses.WriteFault = EndsAtWriteFault course before after
 Ends course before after statuses.NoMemory = EndsWithoutMemory course before after
-Ends course before after statuses.TooLong = IsPageTooLong course before after ⊎ IsScriptTooLong course before after
+Ends course before after statuses.TooLong =
+    IsPageTooLong course before after ⊎ EndsAtScript course.script course.page before after statuses.TooLong
 Ends course before after statuses.NotSeven = EndsNotSeven course before after
 
 -- ---- however a run ends
 
 -- what holds of the shelf, where the page is in the file of this name
 pub record ReadsFiles (course : Course) (page : List ℕ) (before after : ShelfState) (status : Status) : Type 0 where
-  -- the script comes first: where a known one is too long, or a line of it is outside the grammar, no file is missed, and
-  -- the page isn't selected
-  pub script_first : (name script : List ℕ) → course.script ≡ File name → Holds before name script
-      → (2 ^ 20 < length script) ⊎ IsSome (course.fault script)
-      → (after.missed ≡ before.missed) × (status ≢ statuses.NoMemory → after.selected ≢ Some (Some page))
   -- where the shelf has the page and the script no file is missed
   pub missed : IsSome (bytes_under before page)
-      → ((name : List ℕ) → course.script ≡ File name → IsSome (bytes_under before name))
+      → ((grammar : Grammar) (name : List ℕ) → course.script ≡ ScriptFile grammar name → IsSome (bytes_under before name))
       → after.missed ≡ before.missed
   -- at the end no other name than the page's is selected, or no other than the script's
   pub selects : status ≢ statuses.NoMemory → SelectsNoOther page after
-      ⊎ ((name : List ℕ) × (course.script ≡ File name) × SelectsNoOther name after)
+      ⊎ ((grammar : Grammar) × (name : List ℕ) × (course.script ≡ ScriptFile grammar name) × SelectsNoOther name after)
   -- the files stay, and the count of faults doesn't fall
   pub files : KeepsFiles before after
   pub faults : before.faults ≤ after.faults
@@ -270,6 +245,23 @@ abbrev pub TouchesShelf : Course → Source → ShelfState → ShelfState → St
 TouchesShelf course (File page) before after status = ReadsFiles course page before after status
 TouchesShelf course (Given own) before after status = after ≡ before
 
+-- the script in the file of this name comes before this page
+pub record ComesFirst (grammar : Grammar) (name : List ℕ) (page : Source) (before after : Outside) (status : Status)
+    : Type 0 where
+  -- where a known one is too long, or a line of it is outside the grammar, no file is missed, and the page isn't selected
+  pub stops : (script : List ℕ) → Holds before.shelf name script
+      → (2 ^ 20 < length script) ⊎ IsSome (first_fault_in grammar script) → (after.shelf.missed ≡ before.shelf.missed)
+      × (status ≢ statuses.NoMemory → (other : List ℕ) → page ≡ File other → after.shelf.selected ≢ Some (Some other))
+  -- where a line of it is outside the grammar, nothing is painted, and nothing put but the line that says so, or a front
+  pub bad : (script : List ℕ) (fault : Fault) → Gives before.shelf name script
+      → first_fault_in grammar script ≡ Some fault → (after.glass ≡ before.glass)
+      × (size : ℕ) × (after.sink.bytes ≡ append_known before.sink.bytes (take size (fault_text fault)))
+
+-- so does the script, where there is one
+abbrev pub IsScriptFirst : ScriptSource → Source → Outside → Outside → Status → Type 0
+IsScriptFirst NoScript page before after status = Unit {0}
+IsScriptFirst (ScriptFile grammar name) page before after status = ComesFirst grammar name page before after status
+
 -- a run of a course
 pub record RunsCourse (course : Course) (before after : Outside) (status : Status) : Type 0 where
   -- each status has its cause, and says what was reported
@@ -278,11 +270,7 @@ pub record RunsCourse (course : Course) (before after : Outside) (status : Statu
   -- a fault of the shelf is counted at status 4 alone, and one of the sink at status 5 alone
   pub shelf_stays : status ≢ statuses.ReadFault → after.shelf.faults ≡ before.shelf.faults
   pub sink_stays : status ≢ statuses.WriteFault → after.sink.faults ≡ before.sink.faults
-  -- where a line of the script is outside the grammar, nothing is painted, and nothing put but the line that says so, or a
-  -- front of it
-  pub bad_script : (name script : List ℕ) (fault : Fault) → course.script ≡ File name → Gives before.shelf name script
-      → course.fault script ≡ Some fault → (after.glass ≡ before.glass)
-      × (size : ℕ) × (after.sink.bytes ≡ append_known before.sink.bytes (take size (fault_text fault)))
+  pub script_first : IsScriptFirst course.script course.page before after status
   -- what paints nothing doesn't touch the glass
   pub unpainted : course.painting ≡ false → after.glass ≡ before.glass
   -- no early end flushes, but that at a script's bad line: where bytes are put, no flush succeeds
@@ -292,9 +280,9 @@ pub record RunsCourse (course : Course) (before after : Outside) (status : Statu
   pub sink_faults : before.sink.faults ≤ after.sink.faults
 
 -- the shelf gives at most 2^20 bytes of the script, if one is in a file
-abbrev pub IsShortScript : ShelfState → Source → Type 0
-IsShortScript shelf (File name) = (script : List ℕ) × Gives shelf name script × (length script ≤ 2 ^ 20)
-IsShortScript shelf (Given own) = Unit {0}
+abbrev pub IsShortScript : ShelfState → ScriptSource → Type 0
+IsShortScript shelf NoScript = Unit {0}
+IsShortScript shelf (ScriptFile grammar name) = (script : List ℕ) × Gives shelf name script × (length script ≤ 2 ^ 20)
 
 -- the words are this request, its page is in a file, and the shelf gives this page
 pub record Asks (words : List (List ℕ)) (shelf : ShelfState) (request : Request) (page : List ℕ) : Type 0 where

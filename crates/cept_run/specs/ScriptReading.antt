@@ -1,14 +1,15 @@
 -- How the reading of a script or of a drawing ends, before the page is selected. The bytes that were read are those of the
 -- file, where the shelf tells it. This project's own.
-use Rattle.std.specs.Prelude.{◌≡◌, ℕ, ◌^◌, ◌≤◌, List, None, IsSome, Result, Ok, Err}
+use Rattle.std.specs.Prelude.{◌≡◌, ℕ, ◌^◌, ◌≤◌, List, Some, None, IsSome, Result, Ok, Err}
+use Rattle.cept_words.specs.Faults.{Fault}
 use Rattle.cept_outside.specs.ShelfState.{ShelfState, KeepsFiles, bytes_under}
 use Rattle.cept_outside.specs.SinkState.{SinkState}
 use Rattle.cept_run.specs.declared.page.Stop.{Stop}
 use Rattle.cept_run.specs.declared.page.Stop.TheVariants as stops
 use Rattle.cept_run.specs.Outside.{PutsWhole, PutsUnflushed}
-use Rattle.cept_run.specs.Course.{File, Gives, SelectsNoOther, Grammar, first_fault_in, sequel_in}
+use Rattle.cept_run.specs.Course.{Gives, SelectsNoOther, Grammar, first_fault_in, ScriptFile, sequel_in}
 use Rattle.cept_run.specs.Events.{Sequel}
-use Rattle.cept_run.specs.Run.{HasBadLine, fault_text}
+use Rattle.cept_run.specs.Run.{fault_text}
 use Rattle.cept_run.specs.Taking.{TakesWhole, TakesUnread, TakesTooMany}
 
 -- it is within the grammar, and says that this is done
@@ -16,14 +17,16 @@ pub record ScriptWhole (grammar : Grammar) (name : List ℕ) (sequel : Sequel) (
   pub bytes : List ℕ
   pub takes : TakesWhole (Gives before name) (2 ^ 20) bytes before after
   pub good : first_fault_in grammar bytes ≡ None
-  pub are : sequel ≡ sequel_in grammar bytes
+  pub are : sequel ≡ sequel_in (ScriptFile grammar name) bytes
 
 -- a line of it is outside the grammar, and this was put of the line that says so
 pub record ScriptRefused (grammar : Grammar) (name : List ℕ) (before after : ShelfState) (Put : List ℕ → Type 0) : Type 0
   where
-    pub bad : HasBadLine (first_fault_in grammar) (File name) before after
-    pub put : Put (fault_text bad.fault)
-    pub stays : after.faults ≡ before.faults
+    pub bytes : List ℕ
+    pub takes : TakesWhole (Gives before name) (2 ^ 20) bytes before after
+    pub fault : Fault
+    pub found : first_fault_in grammar bytes ≡ Some fault
+    pub put : Put (fault_text fault)
 
 -- why the reading of a file stops
 abbrev pub ScriptStops : Grammar → List ℕ → ShelfState → SinkState → Stop → ShelfState → SinkState → Type 0

@@ -13,7 +13,7 @@ ghost use Rattle.cept_run.specs.declared.words.ReportOptions.{ReportOptions};
 ghost use Rattle.cept_codes.specs.declared.look.Look.{Look};
 ghost use Rattle.cept_editor.specs.Events.{Event, event_changes, paints};
 ghost use Rattle.cept_editor.specs.Made.{Output, AreCutOff};
-ghost use Rattle.cept_run.specs.Course.{File, Given, course_of};
+ghost use Rattle.cept_run.specs.Course.{File, NoScript, course_of};
 ghost use Rattle.cept_plot.specs.declared.figure.Figure.{Figure};
 ghost use Rattle.cept_plot.specs.Commands.{IsDrawnOn};
 ghost use Rattle.cept_plot.specs.Drawings.{points_after_all};
@@ -77,17 +77,17 @@ pub fn a_drawing_is_drawn_on_its_page()
 /// it is selected at the end or not: where it isn't, nothing was taken. Where a script is asked for,
 /// or a drawing, it is that which may be selected at the end, and of the page nothing is reported.
 pub fn a_known_page_is_reported_as_far_as_taken()
-    ensures read_fault { (words : List (List ℕ)) (request : Request) (name own page : List ℕ)
+    ensures read_fault { (words : List (List ℕ)) (request : Request) (name page : List ℕ)
         (before after : Outside)
         → IsSound before.shelf → IsSound after.shelf → Runs words before after statuses.ReadFault
         → request_of words ≡ Some request → (course_of request).page ≡ File name
-        → Holds before.shelf name page → (course_of request).script ≡ Given own
+        → Holds before.shelf name page → (course_of request).script ≡ NoScript
         → ReportsFront (course_of request) (take after.shelf.taken page) before after }
-    ensures too_long { (words : List (List ℕ)) (request : Request) (name own page : List ℕ)
+    ensures too_long { (words : List (List ℕ)) (request : Request) (name page : List ℕ)
         (before after : Outside)
         → IsSound before.shelf → IsSound after.shelf → Runs words before after statuses.TooLong
         → request_of words ≡ Some request → (course_of request).page ≡ File name
-        → Holds before.shelf name page → (course_of request).script ≡ Given own
+        → Holds before.shelf name page → (course_of request).script ≡ NoScript
         → ReportsFront (course_of request) (take (2 ^ 24) page) before after }
     ensures read_fault_selected { (words : List (List ℕ)) (request : Request)
         (name page : List ℕ) (before after : Outside)

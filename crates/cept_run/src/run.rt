@@ -7,9 +7,9 @@ ghost use Rattle.cept_outside.specs.QuietShelf.{quiet_shelf_state};
 ghost use Rattle.cept_outside.specs.QuietSink.{quiet_sink_state};
 ghost use Rattle.cept_outside.specs.ShelfState.{ShelfState};
 ghost use Rattle.cept_parser.specs.Items.{closed_items};
-ghost use Rattle.cept_run.specs.Course.{Source, File, Given, Grammar, Scripts, report_course};
+ghost use Rattle.cept_run.specs.Course.{File, Given, ScriptSource, NoScript, report_course};
 ghost use Rattle.cept_run.specs.Course.{course_of, sequel_in};
-ghost use Rattle.cept_run.specs.Events.{text_at_end, has_refusal, nothing_more};
+ghost use Rattle.cept_run.specs.Events.{text_at_end, has_refusal, NoSequel};
 ghost use Rattle.cept_run.specs.Outside.{outside_of};
 ghost use Rattle.cept_run.specs.Page.{PutsEnd};
 ghost use Rattle.cept_run.specs.Reporting.{Plan, StandsAtEnd, HasRead, plan_in, sequel_of};
@@ -166,11 +166,11 @@ fn report_stored<F: Shelf, T: Sink, G: Glass, L: Ledger>(
         → HasRead (plan_in decoder.old.reporter) decoder.old [] start start }
     requires blink { HasBlink decoder.old.reporter.options.end blink.old }
     requires blank { IsBlankOf L.name L.parts blank.name blank.parts }
-    ensures { (grammar : Grammar) (script : Source) (bytes : List ℕ) (start : ShelfState)
-        → ScriptKnown grammar page.now.text.now script bytes start (F.state shelf.old)
-        → sequel_of (plan_in decoder.old.reporter) ≡ sequel_in grammar bytes
+    ensures { (script : ScriptSource) (bytes : List ℕ) (start : ShelfState)
+        → ScriptKnown script bytes start (F.state shelf.old)
+        → sequel_of (plan_in decoder.old.reporter) ≡ sequel_in script bytes
         → RunsCourse
-        (report_course decoder.old.reporter.options grammar (File page.now.text.now) script)
+        (report_course decoder.old.reporter.options (File page.now.text.now) script)
         (outside_of start (T.state sink.old) (G.state glass.old))
         (outside_of (F.state shelf.new) (T.state sink.new) (G.state glass.new))
         (status_at_end result) }
@@ -325,12 +325,12 @@ fn report_generated<T: Sink, G: Glass, L: Ledger>(
 ) -> Result<bool, Stop>
     requires fresh { (start : Output)
         → HasRead (plan_in decoder.old.reporter) decoder.old [] start start }
-    requires alone { sequel_of (plan_in decoder.old.reporter) ≡ nothing_more }
+    requires alone { sequel_of (plan_in decoder.old.reporter) ≡ NoSequel }
     requires blink { HasBlink decoder.old.reporter.options.end None }
     requires blank { IsBlankOf L.name L.parts blank.name blank.parts }
     ensures { (shelf : ShelfState)
         → RunsCourse
-        (report_course decoder.old.reporter.options Scripts (Given (generated number)) (Given []))
+        (report_course decoder.old.reporter.options (Given (generated number)) NoScript)
         (outside_of shelf (T.state sink.old) (G.state glass.old))
         (outside_of shelf (T.state sink.new) (G.state glass.new)) (status_at_end result) }
 {

@@ -1,8 +1,9 @@
 //! What the commands of a page are applied to.
 
-ghost use Rattle.std.specs.Prelude.{◌≡◌, [], IfOk, IsOk, None, false, if◌then◌else◌};
+ghost use Rattle.std.specs.Prelude.{◌≡◌, [], IfOk, IsOk, false, if◌then◌else◌};
 ghost use Rattle.std.specs.Option.{option_map};
 ghost use Rattle.cept_codes.specs.Command.{IsValidCommand};
+ghost use Rattle.cept_run.specs.Events.{NoSequel};
 ghost use Rattle.cept_run.specs.Reporting.{painted_target, screen_of, AppliesOn};
 ghost use Rattle.cept_run.specs.Words.{is_painted};
 
@@ -32,7 +33,7 @@ impl Target {
     /// A screen before the first command, where commands are painted. Else it takes no memory.
     pub fn new(alloc: Global, way: Way) -> Result<Target, NoMemory>
         ensures start { IfOk result (λ target. target
-            ≡ (if is_painted way then painted_target None [] else Target.Nothing)) }
+            ≡ (if is_painted way then painted_target NoSequel [] else Target.Nothing)) }
         ensures memory { is_painted way ≡ false → IsOk result }
     {
         if way.is_painted() {

@@ -8,14 +8,17 @@ use Rattle.cept_editor.specs.Events.{report}
 use Rattle.cept_outside.specs.ShelfState.{ShelfState, Holds, bytes_under}
 use Rattle.cept_outside.specs.SinkState.{SinkState, Gains, GainsPart}
 use Rattle.cept_parser.specs.Items.{closed_items}
-use Rattle.cept_run.specs.Course.{Course, Source, File, Given, HasBytes, course_of}
+use Rattle.cept_words.specs.Faults.{Fault}
+use Rattle.cept_run.specs.Course.{Course, Source, File, Given, HasBytes, first_fault_in, course_of}
+use Rattle.cept_run.specs.Course.{ScriptSource, NoScript, ScriptFile, IsReadFirst}
 use Rattle.cept_run.specs.Events.{has_refusal}
 use Rattle.cept_run.specs.Outside.{PutsFront}
-use Rattle.cept_run.specs.Run.{EndsWhole, EndsAtWriteFault, IsReportCut, IsFaultCut, Ends, RunsCourse, ReadsFiles}
+use Rattle.cept_run.specs.Run.{EndsWhole, EndsAtScript, EndsAtWriteFault, IsPageUnread, IsReportCut, Ends, RunsCourse, ReadsFiles}
 use Rattle.cept_run.specs.Run.{TouchesShelf, fault_text, report_of, status_number}
 use Rattle.cept_run.specs.declared.run.Status.{Status}
 use Rattle.cept_run.specs.declared.run.Status.TheVariants as statuses
-use Rattle.tamligub.specs.Called.{Holding, HasRun, Supplies, IsSupplied, IsReported, Reported, IsMissed}
+use Rattle.tamligub.specs.Called.{Holding, HasRun, Supplies, SuppliesScript, IsSupplied, IsScriptSupplied, fault_in, IsReported}
+use Rattle.tamligub.specs.Called.{Reported, IsMissed}
 use Rattle.tamligub.specs.Called.{IsFront, IsCutOff, IsFrontReported, FrontReported, IsFaultReported, FaultReported}
 
 -- a source has the bytes that the call supplies
@@ -30,9 +33,16 @@ supplied page script shelf paged scripted (File name) bytes read has (inr (is, e
     (subst (λ b. Holds shelf (codes "script") b) (sym e) scripted)))
 supplied page script shelf paged scripted (Given own) bytes read has e = has ∙ sym e
 
+supplied_first : (page script : List ℕ) (shelf : ShelfState) → Holds shelf (codes "page") page
+    → Holds shelf (codes "script") script → (source : ScriptSource) (bytes read : List ℕ) → IsReadFirst shelf source bytes
+    → SuppliesScript page script source read → bytes ≡ read
+supplied_first page script shelf paged scripted NoScript bytes read is e = is ∙ sym e
+supplied_first page script shelf paged scripted (ScriptFile grammar name) bytes read is e =
+    supplied page script shelf paged scripted (File name) bytes read is.0 e
+
 module _ (word : List ℕ) (given number : ℕ) (page script old new : List ℕ) (put answer : ℕ) (status : Status)
     (run : HasRun word given number page script old new put status) (course : Course) (read lines : List ℕ)
-    (page_is : Supplies page script course.page read) (lines_are : Supplies page script course.script lines) where
+    (page_is : Supplies page script course.page read) (lines_are : SuppliesScript page script course.script lines) where
   -- the text is the whole report, where the page was read to its end
   text_is : (refused : Bool) → EndsWhole course run.runs.before run.runs.after refused
       → run.text ≡ report_of course read lines
@@ -41,7 +51,7 @@ module _ (word : List ℕ) (given number : ℕ) (page script old new : List ℕ)
       let same_page : e.page ≡ read =
       supplied page script on.before.shelf on.has_page on.has_script course.page e.page read e.page_is page_is in
       let same_lines : e.script ≡ lines =
-      supplied page script on.before.shelf on.has_page on.has_script course.script e.script lines e.script_is lines_are in
+      supplied_first page script on.before.shelf on.has_page on.has_script course.script e.script lines e.script_is lines_are in
       let shown = e.reports.meaning on.blank in
       let told : Some run.text ≡ Some (report (course.events e.page e.script on.after.glass.grid)) =
       sym run.is ∙ ap (λ s. s.bytes) (sym on.after_sink) ∙ e.reports.put.put
@@ -114,20 +124,30 @@ module _ (word : List ℕ) (given number : ℕ) (page script old new : List ℕ)
       of_front whole (inl part) = part_is whole part
       of_front whole (inr all) = let no : false ≡ true = sym all.1 ∙ flushes_always in cc
 
-      by_cut : IsReportCut course run.runs.before run.runs.after ⊎ IsFaultCut course run.runs.before run.runs.after
+      first : (bytes : List ℕ) → IsReadFirst run.runs.before.shelf course.script bytes → bytes ≡ lines
+      first bytes is = supplied_first page script run.runs.before.shelf run.runs.has_page run.runs.has_script course.script
+          bytes lines is lines_are
+
+      -- at the line of a script's fault
+      of_line : (source : ScriptSource) → SuppliesScript page script source lines
+          → EndsAtScript source course.page run.runs.before run.runs.after statuses.WriteFault
+          → (fault : Fault) × (fault_in source lines ≡ Some fault) × IsFront run.text (fault_text fault)
+      of_line NoScript is c = elim c [ ]
+      of_line (ScriptFile grammar name) is c = (
+        c.fault,
+        subst (λ l. first_fault_in grammar l ≡ Some c.fault) (same (File name) c.script lines c.script_is is) c.found,
+        of_front (fault_text c.fault) c.put,
+      )
+
+      by_cut : IsReportCut course run.runs.before run.runs.after
+          ⊎ EndsAtScript course.script course.page run.runs.before run.runs.after statuses.WriteFault
           → IsCutOff course read lines run.text
       by_cut (inl c) =
-          inl (subst (λ l. IsFront run.text (report_of course read l))
-          (same course.script c.script lines c.script_is lines_are)
+          inl (subst (λ l. IsFront run.text (report_of course read l)) (first c.script c.script_is)
           (subst (λ p. IsFront run.text (report_of course p c.script))
           (same course.page c.page read c.page_is page_is)
           (of_front (report_of course c.page c.script) (c.front run.runs.blank))))
-      by_cut (inr c) =
-          let bad = c.bad in
-          let named = same course.script bad.script lines
-          (subst (λ (s : Source). HasBytes run.runs.before.shelf s bad.script) (sym bad.named) bad.script_is)
-          lines_are in
-          inr (bad.fault, subst (λ l. course.fault l ≡ Some bad.fault) named bad.found, of_front (fault_text bad.fault) c.put)
+      by_cut (inr c) = inr (of_line course.script lines_are c)
 
   front_by : (s : Status) → answer ≡ status_number s → RunsCourse course run.runs.before run.runs.after s
       → answer ≡ 5 → IsFrontReported course read lines old new put
@@ -151,22 +171,28 @@ put_within word given number page script old new put status run = omega (arith, 
 
 module _ (word : List ℕ) (given number : ℕ) (page script old new : List ℕ) (put answer : ℕ) (status : Status)
     (run : HasRun word given number page script old new put status) (course : Course) where
-  fault_by : (s : Status) (lines : List ℕ) → Supplies page script course.script lines → answer ≡ status_number s
+  -- the line of the fault stands in the slice
+  fault_held : (lines : List ℕ) (source : ScriptSource) → SuppliesScript page script source lines
+      → EndsAtScript source course.page run.runs.before run.runs.after statuses.Script
+      → (fault : Fault) × (fault_in source lines ≡ Some fault) × Holding (fault_text fault) old new put
+  fault_held lines NoScript is e = elim e [ ]
+  fault_held lines (ScriptFile grammar name) is e =
+      let on = run.runs in
+      let same : e.script ≡ lines =
+      supplied page script on.before.shelf on.has_page on.has_script (File name) e.script lines e.script_is is in
+      let told : Some run.text ≡ Some (fault_text e.fault) =
+      sym run.is ∙ ap (λ (s : SinkState). s.bytes) (sym on.after_sink) ∙ e.put.put
+      ∙ ap (λ (s : SinkState). append_known s.bytes (fault_text e.fault)) on.before_sink in (
+        e.fault,
+        subst (λ l. first_fault_in grammar l ≡ Some e.fault) same e.found,
+        subst (λ t. Holding t old new put) (same_Some run.text (fault_text e.fault) told) run.holding,
+      )
+
+  fault_by : (s : Status) (lines : List ℕ) → SuppliesScript page script course.script lines → answer ≡ status_number s
       → Ends course run.runs.before run.runs.after s → answer ≡ 3 → IsFaultReported course lines old new put
   fault_by statuses.Script lines lines_are is e three =
-      let on = run.runs in
-      let bad = e.bad in
-      let same : bad.script ≡ lines =
-      supplied page script on.before.shelf on.has_page on.has_script course.script bad.script lines
-      (subst (λ (s : Source). HasBytes on.before.shelf s bad.script) (sym bad.named) bad.script_is) lines_are in
-      let told : Some run.text ≡ Some (fault_text bad.fault) =
-      sym run.is ∙ ap (λ (s : SinkState). s.bytes) (sym on.after_sink) ∙ e.put.put
-      ∙ ap (λ (s : SinkState). append_known s.bytes (fault_text bad.fault)) on.before_sink in
-      record {
-        fault = bad.fault;
-        found = subst (λ l. course.fault l ≡ Some bad.fault) same bad.found;
-        holding = subst (λ t. Holding t old new put) (same_Some run.text (fault_text bad.fault) told) run.holding;
-      }
+      let held = fault_held lines course.script lines_are e in
+      record { fault = held.0; found = held.1; holding = held.2 }
   fault_by statuses.Done lines lines_are is e three = absurd (omega (arith, is, three))
   fault_by statuses.Refusals lines lines_are is e three = absurd (omega (arith, is, three))
   fault_by statuses.Usage lines lines_are is e three = absurd (omega (arith, is, three))
@@ -182,16 +208,29 @@ module _ (word : List ℕ) (given number : ℕ) (page script old new : List ℕ)
   there name (inr is) =
       subst (λ n. IsSome (bytes_under run.runs.before.shelf n)) (sym is) (ap is_some run.runs.has_script.under)
 
+  -- the page is in a file
+  paged_at : (source : ScriptSource)
+      → EndsAtScript source course.page run.runs.before run.runs.after statuses.ReadFault
+      → (name : List ℕ) × (course.page ≡ File name)
+  paged_at NoScript e = elim e [ ]
+  paged_at (ScriptFile grammar name) e = (e.0.page_unselected.0, e.0.page_unselected.1)
+
+  paged_by : IsPageUnread course run.runs.before run.runs.after
+      ⊎ EndsAtScript course.script course.page run.runs.before run.runs.after statuses.ReadFault
+      → (name : List ℕ) × (course.page ≡ File name)
+  paged_by (inl unread) = (unread.name, unread.first.named)
+  paged_by (inr script) = paged_at course.script script
+
   missed_by : (s : Status) → answer ≡ status_number s → RunsCourse course run.runs.before run.runs.after s → answer ≡ 4
-      → IsSupplied course.page → IsSupplied course.script → ⊥
+      → IsSupplied course.page → IsScriptSupplied course.script → ⊥
   missed_by statuses.ReadFault is r four page_there script_there =
       let on = run.runs in
-      let name = r.ends.name in
-      let files : ReadsFiles course name on.before.shelf on.after.shelf statuses.ReadFault =
-      subst (λ (s : Source). TouchesShelf course s on.before.shelf on.after.shelf statuses.ReadFault) r.ends.named
+      let paged = paged_by r.ends.which in
+      let files : ReadsFiles course paged.0 on.before.shelf on.after.shelf statuses.ReadFault =
+      subst (λ (s : Source). TouchesShelf course s on.before.shelf on.after.shelf statuses.ReadFault) paged.1
       r.shelf in
-      let stays = files.missed (there name (subst IsSupplied r.ends.named page_there))
-      (λ other named. there other (subst IsSupplied named script_there)) in
+      let stays = files.missed (there paged.0 (subst IsSupplied paged.1 page_there))
+      (λ grammar other named. there other (subst IsScriptSupplied named script_there)) in
       absurd (omega (arith, r.ends.read_fault, on.faultless, on.unmissed, on.missed, stays))
   missed_by statuses.Done is r four page_there script_there = absurd (omega (arith, is, four))
   missed_by statuses.Refusals is r four page_there script_there = absurd (omega (arith, is, four))

@@ -21,8 +21,8 @@ use Rattle.cept_live.specs.Notices.{Saying, notice_of, sayings_after}
 use Rattle.cept_live.proofs.Laws.{commands_of-more, lines_of-items, sayings_after-append}
 use Rattle.cept_run.specs.declared.words.ReportOptions.{ReportOptions}
 use Rattle.cept_run.specs.declared.words.PageAction.TheVariants as pages
-use Rattle.cept_run.specs.Events.{end_event, history, item_event, item_events, nothing_more, remaining_of, run_events}
-use Rattle.cept_run.specs.Events.{script_events, text_of_said}
+use Rattle.cept_run.specs.Events.{end_event, history, item_event, item_events, NoSequel, remaining_of, run_events}
+use Rattle.cept_run.specs.Events.{text_of_said}
 use Rattle.cept_run.specs.Words.{options_of_page}
 use Rattle.tamligub.specs.Told.{lines_in}
 use Rattle.tamligub.proofs.NoticesRead.{saying_read}
@@ -61,13 +61,13 @@ texts_told earlier (item ∷ more) whole n is counted =
 -- ---- of a whole page
 
 report-items : (page : List ℕ) (shown : List (List Look))
-    → report (run_events asked page nothing_more shown) ≡ flat_map (λ (e : Event). e.text) (item_events asked (closed_items page))
-unfolding report script_events
+    → report (run_events asked page NoSequel shown) ≡ flat_map (λ (e : Event). e.text) (item_events asked (closed_items page))
+unfolding report
 report-items page shown =
-    ap (flat_map (λ (e : Event). e.text)) (ap (λ (l : List Event). l ++ end_event asked shown page (remaining_of asked page nothing_more) ∷ [])
+    ap (flat_map (λ (e : Event). e.text)) (ap (λ (l : List Event). l ++ end_event asked shown page (remaining_of asked page NoSequel) ∷ [])
     (append-nil (item_events asked (closed_items page))))
     ∙ flat_map-append (λ (e : Event). e.text) (item_events asked (closed_items page))
-    (end_event asked shown page (remaining_of asked page nothing_more) ∷ [])
+    (end_event asked shown page (remaining_of asked page NoSequel) ∷ [])
     ∙ append-nil _
 
 texts-page : (page : List ℕ) → flat_map (λ (e : Event). e.text) (item_events asked (closed_items page)) ≡ lines_after [] (closed_items page)
@@ -75,7 +75,7 @@ unfolding item_events
 texts-page page = texts_told [] (closed_items page) (closed_items page) 0 refl refl
 
 pub lines_of-page : (page : List ℕ) (shown : List (List Look))
-    → lines_of (sayings_after [] (closed_items page)) ≡ report (run_events asked page nothing_more shown)
+    → lines_of (sayings_after [] (closed_items page)) ≡ report (run_events asked page NoSequel shown)
 lines_of-page page shown =
     lines_of-items [] (closed_items page) ∙ sym (texts-page page) ∙ sym (report-items page shown)
 
@@ -105,7 +105,7 @@ notices_told page closed left notices more are is ends is_more =
 
 pub lines_in-page : (page : List ℕ) (shown : List (List Look)) (old mid new : LiveState) (notices other after : List Notice) (to : ℕ)
     → HasFed old [] → TellsAll old page notices → HasFed mid page → Ends mid other 0 new to after
-    → lines_in (notices ++ take to after) ≡ report (run_events asked page nothing_more shown)
+    → lines_in (notices ++ take to after) ≡ report (run_events asked page NoSequel shown)
 lines_in-page page shown old mid new notices other after to opened told fed ended =
     let one = told.tells [] opened in
     let two = ended.tells page fed in

@@ -2,11 +2,12 @@
 use Rattle.std.proofs.Common.{◌≡◌, inl, inr, ℕ, List, [], ◌++◌, Option, Some, None, true, length, drop}
 use Rattle.std.proofs.Common.{refl, sym, ap, subst, ◌∙◌}
 use Rattle.std.proofs.lemmas.Option.{same_Some}
+use Rattle.cept_editor.specs.Made.{Output}
 use Rattle.cept_outside.specs.SinkState.{SinkState}
 use Rattle.cept_run.specs.Outside.{Outside}
-use Rattle.cept_run.specs.Run.{Ends, Runs, status_number}
+use Rattle.cept_run.specs.Run.{Ends, EndsAtScript, Runs, status_number}
 use Rattle.cept_run.specs.Words.{Request, request_of}
-use Rattle.cept_run.specs.Course.{course_of}
+use Rattle.cept_run.specs.Course.{Source, ScriptSource, NoScript, ScriptFile, course_of}
 use Rattle.cept_run.specs.declared.run.Status.{Status}
 use Rattle.cept_run.specs.declared.run.Status.TheVariants as statuses
 use Rattle.tamligub.specs.Called.{Holding, HasRun, MemoryTaken, NothingPut, PutsNone, UsageAnswered}
@@ -73,12 +74,18 @@ unput_run word given number page script old new put status run same =
     ∙ run.runs.before_sink)) in
     none_held run.text old new put none run.holding
 
+-- nor does one at whose script there is no memory
+unput_at : (script : ScriptSource) (page : Source) (before after : Outside)
+    → EndsAtScript script page before after statuses.NoMemory → after.sink ≡ before.sink
+unput_at NoScript page before after ends = elim ends [ ]
+unput_at (ScriptFile grammar name) page before after ends = ap (λ (o : Output). o.sink) ends.unmade
+
 unput_by : (words : List (List ℕ)) (before after : Outside) (asked : Option Request) → request_of words ≡ asked
     → Runs words before after statuses.NoMemory → after.sink ≡ before.sink
 unput_by words before after (Some request) is runs =
     elim (runs.request request is).ends.early [
       | inl same ↦ ap (λ (o : Outside). o.sink) same
-      | inr script ↦ script.1.unput
+      | inr script ↦ unput_at (course_of request).script (course_of request).page before after script
     ]
 unput_by words before after None is runs = ap (λ (o : Outside). o.sink) (runs.untouched (runs.usage.1 is))
 

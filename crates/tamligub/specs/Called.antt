@@ -7,7 +7,7 @@ use Rattle.cept_outside.specs.ShelfState.{Holds, bytes_under}
 use Rattle.cept_outside.specs.SinkState.{SinkState, empty_sink}
 use Rattle.cept_parser.specs.Items.{closed_items}
 use Rattle.cept_profile.specs.Look.{grid}
-use Rattle.cept_run.specs.Course.{Course, Source, File, Given, course_of}
+use Rattle.cept_run.specs.Course.{Course, Source, File, Given, first_fault_in, ScriptSource, NoScript, ScriptFile, course_of}
 use Rattle.cept_run.specs.Events.{has_refusal}
 use Rattle.cept_run.specs.Outside.{Outside}
 use Rattle.cept_run.specs.Run.{Runs, fault_text, report_of, status_number}
@@ -70,10 +70,25 @@ Supplies page script (File name) bytes =
     ((name ≡ codes "page") × (bytes ≡ page)) ⊎ ((name ≡ codes "script") × (bytes ≡ script))
 Supplies page script (Given own) bytes = bytes ≡ own
 
+-- the same of what is read before a page, where a script is
+abbrev pub SuppliesScript : List ℕ → List ℕ → ScriptSource → List ℕ → Type 0
+SuppliesScript page script NoScript bytes = bytes ≡ []
+SuppliesScript page script (ScriptFile grammar name) bytes = Supplies page script (File name) bytes
+
 -- a source is one that a call supplies: the file `page` or the file `script`, or no file at all
 abbrev pub IsSupplied : Source → Type 0
 IsSupplied (File name) = (name ≡ codes "page") ⊎ (name ≡ codes "script")
 IsSupplied (Given own) = Unit {0}
+
+-- so is a script, where there is one
+abbrev pub IsScriptSupplied : ScriptSource → Type 0
+IsScriptSupplied NoScript = Unit {0}
+IsScriptSupplied (ScriptFile grammar name) = IsSupplied (File name)
+
+-- the first fault of a script, where there is one
+abbrev pub fault_in : ScriptSource → List ℕ → Option Fault
+fault_in NoScript bytes = None
+fault_in (ScriptFile grammar name) bytes = first_fault_in grammar bytes
 
 -- the report stands in the slice, and the answer says whether an item of the page is refused
 pub record IsReported (course : Course) (page script old new : List ℕ) (put answer : ℕ) : Type 0 where
@@ -89,7 +104,7 @@ pub record IsFront (text whole : List ℕ) : Type 0 where
 -- the front of the report, or of the line of the script's first fault
 abbrev pub IsCutOff : Course → List ℕ → List ℕ → List ℕ → Type 0
 IsCutOff course page script text = IsFront text (report_of course page script)
-    ⊎ ((fault : Fault) × (course.fault script ≡ Some fault) × IsFront text (fault_text fault))
+    ⊎ ((fault : Fault) × (fault_in course.script script ≡ Some fault) × IsFront text (fault_text fault))
 
 -- the front of what was to be put stands in the slice, as much as there is room for
 pub record IsFrontReported (course : Course) (page script old new : List ℕ) (put : ℕ) : Type 0 where
@@ -101,28 +116,28 @@ pub record IsFrontReported (course : Course) (page script old new : List ℕ) (p
 -- the line of the script's first fault stands in the slice
 pub record IsFaultReported (course : Course) (script old new : List ℕ) (put : ℕ) : Type 0 where
   pub fault : Fault
-  pub found : course.fault script ≡ Some fault
+  pub found : fault_in course.script script ≡ Some fault
   pub holding : Holding (fault_text fault) old new put
 
 -- what the words ask for was done to its end
 abbrev pub Reported : List ℕ → ℕ → ℕ → List ℕ → List ℕ → List ℕ → List ℕ → ℕ → ℕ → Type 0
 Reported word given number page script old new put answer = (request : Request) (read lines : List ℕ)
     → request_of (words_for word given number) ≡ Some request
-    → Supplies page script (course_of request).page read → Supplies page script (course_of request).script lines
+    → Supplies page script (course_of request).page read → SuppliesScript page script (course_of request).script lines
     → answer < 2 → IsReported (course_of request) read lines old new put answer
 
 -- there was no room for all that is put
 abbrev pub FrontReported : List ℕ → ℕ → ℕ → List ℕ → List ℕ → List ℕ → List ℕ → ℕ → ℕ → Type 0
 FrontReported word given number page script old new put answer = (request : Request) (read lines : List ℕ)
     → request_of (words_for word given number) ≡ Some request
-    → Supplies page script (course_of request).page read → Supplies page script (course_of request).script lines
+    → Supplies page script (course_of request).page read → SuppliesScript page script (course_of request).script lines
     → answer ≡ 5 → IsFrontReported (course_of request) read lines old new put
 
 -- a line of the script is outside the grammar
 abbrev pub FaultReported : List ℕ → ℕ → ℕ → List ℕ → List ℕ → List ℕ → List ℕ → ℕ → ℕ → Type 0
 FaultReported word given number page script old new put answer = (request : Request) (lines : List ℕ)
     → request_of (words_for word given number) ≡ Some request
-    → Supplies page script (course_of request).script lines → answer ≡ 3
+    → SuppliesScript page script (course_of request).script lines → answer ≡ 3
     → IsFaultReported (course_of request) lines old new put
 
 -- 2 is answered exactly where the words are no request
@@ -147,4 +162,4 @@ MemoryTaken word given number answer = (request : Request)
 abbrev pub IsMissed : List ℕ → ℕ → ℕ → ℕ → Type 0
 IsMissed word given number answer = (request : Request)
     → request_of (words_for word given number) ≡ Some request → answer ≡ 4
-    → IsSupplied (course_of request).page → IsSupplied (course_of request).script → ⊥
+    → IsSupplied (course_of request).page → IsScriptSupplied (course_of request).script → ⊥

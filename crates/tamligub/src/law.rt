@@ -12,7 +12,7 @@ ghost use Rattle.cept_live.specs.Notices.{Saying, notice_of, sayings_after};
 ghost use Rattle.cept_run.specs.declared.words.PageAction.TheVariants as pages;
 ghost use Rattle.cept_profile.specs.State.{state};
 ghost use Rattle.cept_run.specs.declared.words.ScriptAction.TheVariants as scripts;
-ghost use Rattle.cept_run.specs.Events.{Edits, end_event, nothing_more, remaining_of, run_events};
+ghost use Rattle.cept_run.specs.Events.{Edits, end_event, NoSequel, remaining_of, run_events};
 ghost use Rattle.cept_run.specs.Words.{options_of_page, options_of_script};
 ghost use Rattle.tamligub.specs.Decoders.{page_of};
 ghost use Rattle.tamligub.specs.Told.{lines_in, saying_in};
@@ -28,11 +28,11 @@ pub fn notices_are_read_back()
 pub fn what_is_told_is_the_report()
     ensures said { (page : List ℕ) (shown : List (List Look))
         → lines_of (sayings_after [] (closed_items page))
-        ≡ report (run_events (options_of_page pages.Changes) page nothing_more shown) }
+        ≡ report (run_events (options_of_page pages.Changes) page NoSequel shown) }
     ensures told { (page : List ℕ) (shown : List (List Look)) (old mid new : LiveState)
         (notices other after : List Notice) (to : ℕ) → HasFed old [] → TellsAll old page notices
         → HasFed mid page → Ends mid other 0 new to after → lines_in (notices ++ take to after)
-        ≡ report (run_events (options_of_page pages.Changes) page nothing_more shown) }
+        ≡ report (run_events (options_of_page pages.Changes) page NoSequel shown) }
 {}
 
 /// A page that was fed whole, and the lines of a script made after its end one by one, leave what the

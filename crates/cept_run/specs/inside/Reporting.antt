@@ -1,5 +1,5 @@
 -- What private clauses say beside `Reporting` (this project's own).
-use Rattle.std.specs.Prelude.{◌≡◌, ℕ, ◌+◌, ◌≤◌, Bool, true, false, List, [], ◌∷◌, ◌++◌, length, Option}
+use Rattle.std.specs.Prelude.{◌≡◌, ℕ, ◌+◌, ◌≤◌, Bool, true, false, List, [], ◌∷◌, ◌++◌, length}
 use Rattle.std.specs.Prelude.{if◌then◌else◌, Result}
 use Rattle.cept_codes.specs.declared.command.Command.{Command}
 use Rattle.cept_codes.specs.declared.item.Item.{Item}
@@ -52,7 +52,7 @@ pub record Applies {X E : Type 0} (old : ReporterState) (item : Item) (command :
   pub options : new.options ≡ old.options
   pub items : new.items ≡ old.items
   pub refused : new.refused ≡ old.refused
-  pub applied : (sequel : Option Sequel) (earlier : List Command) → AllValid earlier
+  pub applied : (sequel : Sequel) (earlier : List Command) → AllValid earlier
       → old.target ≡ painted_target sequel earlier
       → (new.target ≡ painted_target sequel (earlier ++ command ∷ []))
       × IsMade (command_event old.options item.at earlier command) before result after

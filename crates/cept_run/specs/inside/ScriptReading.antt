@@ -1,5 +1,5 @@
 -- What private clauses say beside `ScriptReading` (this project's own).
-use Rattle.std.specs.Prelude.{◌≡◌, ◌≢◌, ℕ, ◌^◌, ◌≤◌, List, length, None, IsSome}
+use Rattle.std.specs.Prelude.{◌≡◌, ℕ, ◌^◌, List, IsSome}
 use Rattle.cept_editor.specs.declared.script.ScriptFault.{ScriptFault}
 use Rattle.cept_editor.specs.declared.script.ScriptFault.TheVariants as faults
 use Rattle.cept_outside.specs.ShelfState.{ShelfState, KeepsFiles, bytes_under}
@@ -10,7 +10,7 @@ use Rattle.cept_report.specs.Text.{script_fault_line}
 use Rattle.cept_run.specs.declared.page.Stop.{Stop}
 use Rattle.cept_run.specs.declared.page.Stop.TheVariants as stops
 use Rattle.cept_run.specs.Outside.{PutsWhole, PutsUnflushed}
-use Rattle.cept_run.specs.Course.{Source, File, HasBytes, Grammar, first_fault_in}
+use Rattle.cept_run.specs.Course.{Grammar, ScriptSource, ScriptFile, IsReadFirst}
 use Rattle.cept_run.specs.Taking.{TakesUnread, TakesTooMany}
 
 -- why the taking of a script stops
@@ -38,16 +38,11 @@ as_script_fault draw_faults.NoMemory = faults.NoMemory
 
 -- ---- before a page is selected
 
--- the script was read, if one is asked for: it has these bytes, and is within the grammar
-pub record ScriptKnown (grammar : Grammar) (page : List ℕ) (script : Source) (bytes : List ℕ) (before after : ShelfState)
-    : Type 0 where
-  pub has : HasBytes before script bytes
-  pub good : first_fault_in grammar bytes ≡ None
-  pub few : length bytes ≤ 2 ^ 20
-  -- it isn't the page
-  pub differs : (name : List ℕ) → script ≡ File name → name ≢ page
+-- the script was read, if one is asked for: it has these bytes
+pub record ScriptKnown (script : ScriptSource) (bytes : List ℕ) (before after : ShelfState) : Type 0 where
+  pub is : IsReadFirst before script bytes
   -- the files stay, none that is there was missed, and no fault was counted
   pub files : KeepsFiles before after
-  pub missed : ((name : List ℕ) → script ≡ File name → IsSome (bytes_under before name))
+  pub missed : ((grammar : Grammar) (name : List ℕ) → script ≡ ScriptFile grammar name → IsSome (bytes_under before name))
       → after.missed ≡ before.missed
   pub stays : after.faults ≡ before.faults

@@ -1,7 +1,7 @@
-use Rattle.std.proofs.Common.{[], refl, ◌∙◌, ap, subst}
+use Rattle.std.proofs.Common.{refl, ◌∙◌, ap, subst}
 use Rattle.cept_generator.specs.Generated.{generated}
 use Rattle.cept_run.specs.declared.words.ReportOptions.{ReportOptions}
-use Rattle.cept_run.specs.Course.{Given, Scripts, report_course}
+use Rattle.cept_run.specs.Course.{Given, NoScript, report_course}
 use Rattle.cept_run.specs.Outside.{outside_of}
 use Rattle.cept_run.specs.Reporting.{sequel_of}
 use Rattle.cept_run.specs.Run.{RunsCourse, status_at_end}
@@ -29,7 +29,7 @@ report_generated-requires-clause-alone g c = ap sequel_of (plan_alone c.new-deco
 
 pub returns : goal.returns
 returns g c = λ shelf.
-    subst (λ (a : ReportOptions). RunsCourse (report_course a Scripts (Given (generated c.args.number)) (Given []))
+    subst (λ (a : ReportOptions). RunsCourse (report_course a (Given (generated c.args.number)) NoScript)
     (outside_of shelf (g.T.Sink.state c.args.sink.now) (g.G.Glass.state c.args.glass.now))
     (outside_of shelf (g.T.Sink.state c.report_generated.new.sink) (g.G.Glass.state c.report_generated.new.glass))
     (status_at_end c.report_generated.result)) c.new-decoder.ensures.options (c.report_generated.ensures shelf)

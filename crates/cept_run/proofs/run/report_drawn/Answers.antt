@@ -2,7 +2,7 @@ use Rattle.std.proofs.Common.{refl, ◌∙◌, ap, subst}
 use Rattle.std.proofs.lemmas.Result.{err_from_is_err_and}
 use Rattle.cept_outside.specs.SinkState.{SinkState}
 use Rattle.cept_run.specs.declared.words.ReportOptions.{ReportOptions}
-use Rattle.cept_run.specs.Course.{File, Drawings, report_course}
+use Rattle.cept_run.specs.Course.{File, Drawings, ScriptFile, report_course}
 use Rattle.cept_run.specs.Events.{Figures}
 use Rattle.cept_run.specs.Outside.{outside_of}
 use Rattle.cept_run.specs.Reporting.{sequel_of}
@@ -34,17 +34,17 @@ returns g c =
     c.new-decoder.ensures.target refl in
     let ends = c.in_ok-drawing.ensures.ends in
     subst (λ (s : SinkState). RunsCourse
-    (report_course options_to_draw Drawings (File c.args.page.now) (File c.args.drawing.now))
+    (report_course options_to_draw (File c.args.page.now) (ScriptFile Drawings c.args.drawing.now))
     (outside_of (g.F.Shelf.state c.args.shelf.now) s (g.G.Glass.state c.args.glass.now))
     (outside_of (g.F.Shelf.state c.report_stored.new.shelf) (g.T.Sink.state c.report_stored.new.sink)
     (g.G.Glass.state c.report_stored.new.glass)) (status_at_end c.report_stored.result)) ends.1
     (subst (λ (a : ReportOptions). RunsCourse
-    (report_course a Drawings (File c.args.page.now) (File c.args.drawing.now))
+    (report_course a (File c.args.page.now) (ScriptFile Drawings c.args.drawing.now))
     (outside_of (g.F.Shelf.state c.args.shelf.now) (g.T.Sink.state c.read_drawing.new.sink)
     (g.G.Glass.state c.args.glass.now))
     (outside_of (g.F.Shelf.state c.report_stored.new.shelf) (g.T.Sink.state c.report_stored.new.sink)
     (g.G.Glass.state c.report_stored.new.glass)) (status_at_end c.report_stored.result))
     c.new-decoder.ensures.options
-    (c.report_stored.ensures Drawings (File c.args.drawing.now) ends.0.bytes _
-    (script_read Drawings _ _ (Figures figures) _ _ c.requires c.read_drawing.ensures.shelf ends.0)
+    (c.report_stored.ensures (ScriptFile Drawings c.args.drawing.now) ends.0.bytes _
+    (script_read Drawings _ (Figures figures) _ _ c.read_drawing.ensures.shelf ends.0)
     (ap sequel_of plan ∙ sequel_followed options_to_draw (Figures figures) refl ∙ ends.0.are)))

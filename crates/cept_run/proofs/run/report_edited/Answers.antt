@@ -2,7 +2,7 @@ use Rattle.std.proofs.Common.{None, refl, sym, ◌∙◌, ap, subst}
 use Rattle.std.proofs.lemmas.Result.{err_from_is_err_and}
 use Rattle.cept_outside.specs.SinkState.{SinkState}
 use Rattle.cept_run.specs.declared.words.ReportOptions.{ReportOptions}
-use Rattle.cept_run.specs.Course.{File, Scripts, report_course}
+use Rattle.cept_run.specs.Course.{File, Scripts, ScriptFile, report_course}
 use Rattle.cept_run.specs.Events.{Edits}
 use Rattle.cept_run.specs.Outside.{outside_of}
 use Rattle.cept_run.specs.Reporting.{HasBlink, sequel_of}
@@ -44,17 +44,17 @@ returns g c =
     c.new-decoder.ensures.target refl in
     let ends = c.in_ok-script.ensures.ends in
     subst (λ (s : SinkState). RunsCourse
-    (report_course (options_of_script c.args.action) Scripts (File c.args.page.now) (File c.args.script.now))
+    (report_course (options_of_script c.args.action) (File c.args.page.now) (ScriptFile Scripts c.args.script.now))
     (outside_of (g.F.Shelf.state c.args.shelf.now) s (g.G.Glass.state c.args.glass.now))
     (outside_of (g.F.Shelf.state c.report_stored.new.shelf) (g.T.Sink.state c.report_stored.new.sink)
     (g.G.Glass.state c.report_stored.new.glass)) (status_at_end c.report_stored.result)) ends.1
     (subst (λ (a : ReportOptions). RunsCourse
-    (report_course a Scripts (File c.args.page.now) (File c.args.script.now))
+    (report_course a (File c.args.page.now) (ScriptFile Scripts c.args.script.now))
     (outside_of (g.F.Shelf.state c.args.shelf.now) (g.T.Sink.state c.read_script.new.sink)
     (g.G.Glass.state c.args.glass.now))
     (outside_of (g.F.Shelf.state c.report_stored.new.shelf) (g.T.Sink.state c.report_stored.new.sink)
     (g.G.Glass.state c.report_stored.new.glass)) (status_at_end c.report_stored.result))
     (c.new-decoder.ensures.options ∙ c.options.ensures)
-    (c.report_stored.ensures Scripts (File c.args.script.now) ends.0.bytes _
-    (script_read Scripts _ _ (Edits lines) _ _ c.requires c.read_script.ensures.shelf ends.0)
+    (c.report_stored.ensures (ScriptFile Scripts c.args.script.now) ends.0.bytes _
+    (script_read Scripts _ (Edits lines) _ _ c.read_script.ensures.shelf ends.0)
     (ap sequel_of plan ∙ sequel_followed options (Edits lines) painting ∙ ends.0.are)))
