@@ -105,20 +105,20 @@ parser_back s place context pending running at in_context waits = λ i. record {
 
 -- a decoder by its parts
 pub live_back : (live : LiveState) (parser : ParserState) (screen : State) (phase : Option ℕ) (renewed : List Bool)
-    → parser ≡ live.parser → screen ≡ live.screen → phase ≡ live.phase → renewed ≡ live.renewed → live.past ≡ []
-    → live.future ≡ [] → (let l : LiveState = record {
+    (past future : List State) → parser ≡ live.parser → screen ≡ live.screen → phase ≡ live.phase → renewed ≡ live.renewed
+    → past ≡ live.past → future ≡ live.future → (let l : LiveState = record {
       parser = parser;
       screen = screen;
       phase = phase;
       renewed = renewed;
-      past = [];
-      future = [];
+      past = past;
+      future = future;
     } in l) ≡ live
-live_back live parser screen phase renewed reads shows flashes told past future = λ i. record {
+live_back live parser screen phase renewed past future reads shows flashes told undone ahead = λ i. record {
   parser = reads i;
   screen = shows i;
   phase = flashes i;
   renewed = told i;
-  past = (sym past) i;
-  future = (sym future) i;
+  past = undone i;
+  future = ahead i;
 }

@@ -18,7 +18,7 @@ use crate::flashing::{Before, Turning};
 use crate::lines::{LONGEST_LINE, Lined, ROOM_FOR_A_LINE};
 use crate::notice::Notice;
 use crate::parts::{Parts, marks_of, parts_of};
-use crate::restore::screen_of;
+use crate::restore::bring_back;
 use crate::snapshot::put_snapshot;
 use crate::state::DecoderState;
 use crate::tell::{Display, take_items, tell_marked};
@@ -411,39 +411,48 @@ impl Live {
         put_front(alloc, self, out)
     }
 
-    /// The decoder of the parts of a snapshot, none where no decoder has them.
+    /// Takes the parts of a snapshot. Answers whether some decoder has them.
     // The stack of a call is that of one step at a time.
     #[inline(never)]
-    fn of_parts(alloc: Global, parts: &Parts<'_>) -> Result<Option<Live>, NoMemory>
+    fn take_parts(&mut self, parts: &Parts<'_>) -> Result<bool, NoMemory>
+        requires start { self.old ≡ live_start }
         requires phase { IsPhase parts.now.phase }
         ensures back { (live : LiveState) (bytes : List ℕ) → HasFed live bytes
-            → HasParts live parts.now → IfOk result (λ found. found ≡ Some live) }
-        ensures running { IfOk result (λ found. IfSome found
-            (λ live. live.parser.finished ≡ false)) }
+            → HasParts live parts.now → IfOk result (λ is_back. (is_back ≡ true)
+            × (self.new ≡ live)) }
+        ensures running { self.new.parser.finished ≡ false }
     {
         // A law: valid commands keep control valid.
         validity_is_kept();
         let Some(parser) = Parser::resumed(parts.place, parts.context, parts.pending) else {
-            return Ok(None);
+            return Ok(false);
         };
         let Some(control) = Control::of_bytes(parts.control) else {
-            return Ok(None);
+            return Ok(false);
         };
-        let Some(screen) = screen_of(alloc, parts.page, &control)? else {
-            return Ok(None);
-        };
-        Ok(Some(Live {
-            parser,
-            display: Display {
-                screen,
-                marks: Marks::new(),
-                renewed: marks_of(parts.renewed),
-            },
-            closed: Closed::new(),
-            ended: false,
-            phase: parts.phase,
-            edits: None,
-        }))
+        self.parser = parser;
+        self.phase = parts.phase;
+        self.display.renewed = marks_of(parts.renewed);
+        bring_back(&mut self.display.screen, parts.page, &control)
+    }
+
+    /// Makes of a decoder before the first byte the one whose snapshot these bytes are, in its place.
+    /// Answers whether they are a decoder's; where they aren't, or there is no memory, it is some
+    /// decoder. It goes on where the other one stood: it is that one wherever bytes were fed to it and
+    /// its page had not ended. A text of 2^32 bytes or more is none's, or finds no memory.
+    pub fn restore(&mut self, alloc: Global, text: &[u8]) -> Result<bool, NoMemory>
+        requires start { self.old ≡ live_start }
+        ensures back { (live : LiveState) (bytes : List ℕ) → HasFed live bytes
+            → snapshot_of live ≡ text.now → IfOk result (λ is_back. (is_back ≡ true)
+            × (self.new ≡ live)) }
+        ensures only { IfOk result (λ is_back. is_back ≡ true → snapshot_of self.new ≡ text.now) }
+        ensures running { self.new.parser.finished ≡ false }
+    {
+        if self.take_parts(&parts_of(text))? {
+            has_bytes(alloc, &*self, text)
+        } else {
+            Ok(false)
+        }
     }
 
     /// The decoder whose snapshot these bytes are, none where they are no decoder's. It goes on where
@@ -456,10 +465,8 @@ impl Live {
         ensures running { IfOk result (λ found. IfSome found
             (λ live. live.parser.finished ≡ false)) }
     {
-        let Some(live) = Live::of_parts(alloc, &parts_of(text))? else {
-            return Ok(None);
-        };
-        if has_bytes(alloc, &live, text)? {
+        let mut live = Live::new(alloc)?;
+        if live.restore(alloc, text)? {
             Ok(Some(live))
         } else {
             Ok(None)

@@ -1,5 +1,5 @@
 //! Reads the bytes of a written page, and brings its screen back.
-ghost use Rattle.std.specs.Prelude.{◌≡◌, ◌<◌, ◌^◌, ◌++◌, ◌∷◌, List, [], length, IfOk, Some};
+ghost use Rattle.std.specs.Prelude.{◌≡◌, ◌<◌, ◌^◌, ◌++◌, ◌∷◌, List, [], length, IfOk, true};
 ghost use Rattle.std.specs.List.{AllByRecursion};
 ghost use Rattle.cept_codes.specs.declared.command.Command.{Command};
 ghost use Rattle.cept_codes.specs.declared.item.Item.{Item};
@@ -68,34 +68,23 @@ fn read_into<L: Ledger>(page: &[u8], screen: &mut Screen, blank: Blank)
     apply_items(last.as_slice(), screen, &mut marks, &mut steps);
 }
 
-/// The screen after the bytes of a page. A page of 2^32 bytes or more finds no memory.
-pub fn read_page(alloc: Global, page: &[u8]) -> Result<Screen, NoMemory>
-    ensures { IfOk result (λ screen. Stands screen (closed_items page.now)) }
-{
-    let Ok(_size) = u32::try_from(page.len()) else {
-        return Err(NoMemory);
-    };
-    let mut screen = Screen::new(alloc)?;
-    let blank = Blank::new(1);
-    read_into::<Brand>(page, &mut screen, blank);
-    Ok(screen)
-}
-
-/// The screen of a written page with this control, none where the page has other settings than
-/// control has.
-// The stack of a call is that of one step at a time.
+/// Brings the screen of a written page with this control back, on a screen at the start. Answers
+/// whether it did: not where the page has other settings than control has. A page of 2^32 bytes or more
+/// finds no memory.
+// The stack of a call is that of one step at a time, and a screen stays in its place.
 #[inline(never)]
-pub fn screen_of(alloc: Global, page: &[u8], control: &Control) -> Result<Option<Screen>, NoMemory>
+pub fn bring_back(screen: &mut Screen, page: &[u8], control: &Control) -> Result<bool, NoMemory>
+    requires start { screen.old ≡ state [] }
     ensures { (history : List Command) → AllValid history
         → page_text (core history) ≡ page.now → control.now ≡ (state history).control
-        → IfOk result (λ found. found ≡ Some (state history)) }
+        → IfOk result (λ is_back. (is_back ≡ true) × (screen.new ≡ state history)) }
 {
     // A law: the bytes of a written page bring its core back.
     compact_texts_bring_pages_back();
-    let mut screen = read_page(alloc, page)?;
-    if screen.take_control(control) {
-        Ok(Some(screen))
-    } else {
-        Ok(None)
-    }
+    let Ok(_size) = u32::try_from(page.len()) else {
+        return Err(NoMemory);
+    };
+    let blank = Blank::new(1);
+    read_into::<Brand>(page, screen, blank);
+    Ok(screen.take_control(control))
 }

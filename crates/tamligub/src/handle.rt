@@ -1,11 +1,29 @@
 //! What C keeps of a decoder.
-ghost use Rattle.std.specs.Prelude.{◌≡◌, true, false, Some, None, if◌then◌else◌, option_map};
+ghost use Rattle.std.specs.Prelude.{◌≡◌, true, false, Some, None, [], IfOk, if◌then◌else◌, option_map};
+ghost use Rattle.cept_live.specs.Live.{HasFed, live_start};
 
 use crate::block::Block;
 use crate::parts::Parts;
+use cept_codes::NoMemory;
 use cept_live::Live;
 use std::alloc::Global;
 use std::mem::replace;
+
+/// A decoder before the first byte, in a box.
+// While it is made it stands on the stack, which is that of this call alone.
+#[inline(never)]
+pub fn live_at_start(alloc: Global) -> Result<Box<Live, Global>, NoMemory>
+    ensures start { IfOk result (λ b. b.value ≡ live_start) }
+    ensures fed { IfOk result (λ b. HasFed b.value []) }
+{
+    let Ok(live) = Live::new(alloc) else {
+        return Err(NoMemory);
+    };
+    let Ok(boxed) = Box::new(alloc, live) else {
+        return Err(NoMemory);
+    };
+    Ok(boxed)
+}
 
 /// A decoder, where one is open. It can't be dropped: one that is open is taken out first.
 #[repr(C)]

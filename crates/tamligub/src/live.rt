@@ -9,9 +9,9 @@ ghost use Rattle.tamligub.specs.Decoders.{FlashTurns, HasNoLook, IsClosed, IsRef
 ghost use Rattle.tamligub.specs.Decoders.{PutsTextOf, TakesNone, ToldOrRefused, notice_at, page_of};
 
 use crate::answer::answer_of;
-use crate::handle::Decoder;
+use crate::handle::{Decoder, live_at_start};
 use cept_codes::Pos;
-use cept_live::{DecoderState, Fed, Live, Notice};
+use cept_live::{DecoderState, Fed, Notice};
 use std::alloc::Global;
 
 /// Opens a decoder before the first byte; one that is open is closed first. Answers 0, or 6 where
@@ -24,10 +24,7 @@ pub extern "C" fn tamligub_open(alloc: Global, decoder: &mut Decoder) -> u32
     ensures failed { (result ≡ 0) ⊎ ((result ≡ 6) × (decoder.new.is_open ≡ false)) }
 {
     let _former = decoder.take(alloc);
-    let Ok(live) = Live::new(alloc) else {
-        return 6;
-    };
-    let Ok(boxed) = Box::new(alloc, live) else {
+    let Ok(boxed) = live_at_start(alloc) else {
         return 6;
     };
     decoder.put(boxed);

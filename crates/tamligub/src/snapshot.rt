@@ -5,8 +5,7 @@ ghost use Rattle.cept_live.specs.Snapshots.{snapshot_of};
 ghost use Rattle.tamligub.specs.Decoders.{HasNoSnapshot, IsRestored, PutsTextOf};
 
 use crate::answer::answer_of;
-use crate::handle::Decoder;
-use cept_live::Live;
+use crate::handle::{Decoder, live_at_start};
 use std::alloc::Global;
 
 /// Puts all of the state as bytes at the front of `out`, and their number in `put`. Answers 0; 1 where
@@ -49,15 +48,15 @@ pub extern "C" fn tamligub_restore(alloc: Global, decoder: &mut Decoder, bytes: 
         ⊎ (((result ≡ 1) ⊎ (result ≡ 6)) × (decoder.new.is_open ≡ false)) }
 {
     let _former = decoder.take(alloc);
-    let Ok(found) = Live::restored(alloc, bytes) else {
+    let Ok(mut live) = live_at_start(alloc) else {
         return 6;
     };
-    let Some(live) = found else {
+    let Ok(is_back) = live.restore(alloc, bytes) else {
+        return 6;
+    };
+    if !is_back {
         return 1;
-    };
-    let Ok(boxed) = Box::new(alloc, live) else {
-        return 6;
-    };
-    decoder.put(boxed);
+    }
+    decoder.put(live);
     0
 }

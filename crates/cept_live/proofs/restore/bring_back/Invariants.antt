@@ -1,4 +1,4 @@
-use Rattle.cept_live.proofs.restore.read_page.Given as goal
+use Rattle.cept_live.proofs.restore.bring_back.Given as goal
 
 -- the ledger of the blank that is handed on
 abbrev pub ghosts-read_into : goal.ghosts-read_into
