@@ -5,8 +5,7 @@ use Rattle.std.specs.Prelude.{◌≡◌, ℕ, ◌+◌, ◌-◌, ◌^◌, ◌≤�
 abbrev pub Rose : ℕ → ℕ → Type 0
 Rose before now = min (before + 1) (2 ^ 64 - 1) ≤ now
 
--- the count of faults before a call and after it: it never falls, a failure is answered only where it rose, and a
--- success only where it is as it was
+-- the count of faults before and after a call: it never falls; a failure comes only where it rose, a success where not
 pub record HasCause {X E : Type 0} (before now : ℕ) (result : Result X E) : Type 0 where
   pub later : before ≤ now
   pub failed : OnErr result (Rose before now)
