@@ -93,7 +93,7 @@ class Archive:
     def __init__(self, options: argparse.Namespace, here: collection.Collection) -> None:
         self.options, self.here = options, here
         self.site = website.Website(options.output, painter(), viewer.module_script())
-        unread = {folder: making.unreadable(why) for folder, why in here.unread.items()}
+        unread = {folder: making.unreadable_folder(why) for folder, why in here.unread.items()}
         there = {} if options.again else {name: known(self.site, here, name) for name in here.names}
         self.facts = {**unread, **{name: old for name, old in there.items() if old}}
         self.wanted = [name for name in here.names if name not in self.facts]

@@ -14,7 +14,8 @@ MOST_SUFFIXES = 8
 
 @dataclasses.dataclass
 class Collection:
-    """Names are paths from the folder, in the order of their bytes; of what is left aside it is told how many have which suffix."""
+    """Names are paths from the folder, in the order of their bytes; those of folders that can't be read end in /. Of what is left aside it
+    is told how many have which suffix."""
 
     folder: str
     names: list[str] = dataclasses.field(default_factory=list)
@@ -28,6 +29,11 @@ class Collection:
     def is_behind(self, name: str) -> bool:
         """Whether a page is in a folder that can't be read, so that nobody knows whether it is there."""
         return any(name.startswith(folder) for folder in self.unread)
+
+
+def is_folder(name: str) -> bool:
+    """Whether a name is that of a folder that can't be read."""
+    return name.endswith("/")
 
 
 def is_page(name: str, patterns: Sequence[str]) -> bool:

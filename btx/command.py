@@ -7,8 +7,8 @@ from collections.abc import Callable, Sequence
 from typing import NoReturn, Protocol
 
 from btx import VERSION, archive, cast, check_script, completion, cut, diff, editor, files, film, host, html_file, jobs, library, line
-from btx import messages, near, passing, picture, program, say, svg, terminal, viewer
-from btx.statuses import NOT_THERE, Status
+from btx import messages, near, passing, picture, program, say, svg, telling, terminal, viewer
+from btx.statuses import NOT_THERE
 
 
 class Own(Protocol):
@@ -79,17 +79,12 @@ def guarded(path: program.Runner, word: str, act: Callable[..., int], *things: o
     """Runs a word; where files or the program fail, it says so."""
     try:
         return act(path, *things)
-    except program.Ended as end:
-        if end.status < 0:
-            passing.end_by(-end.status)
-        asked = end.word if end.status == Status.USAGE else word
-        say(messages.sentence(messages.Run(path, asked, end.words), end.status))
-        return end.status
     except BrokenPipeError:
         raise
+    except program.Ended as end:
+        return telling.of_end(path, word, end)
     except OSError as fault:
-        say(": ".join(part for part in (word, fault.filename, messages.why(fault)) if part))
-        return 4
+        return telling.of_fault(word, fault)
 
 
 def is_page(word: str) -> bool:

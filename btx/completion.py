@@ -1,6 +1,6 @@
 """Writes the completion of btx for a shell: its words, the options of each with their values, and files. Of a checkout
 . <(bin/btx completion bash) loads it, in zsh likewise after compinit; bin/btx completion fish | source does so in fish. An install keeps
-all three where the shells look for them."""
+all three where the shells look for them under /usr and /usr/local, and says what zsh takes under another prefix."""
 import argparse
 from collections.abc import Iterator, Sequence
 

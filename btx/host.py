@@ -6,11 +6,13 @@ import asyncio
 import time
 from typing import Protocol
 
-from btx import debian, guest, messages, recording, say, web
+from btx import debian, guest, messages, program, recording, say, web
 from btx.statuses import NOT_THERE
 
 SUMMARY = "a small host for trying terminals, with the pages of a folder"
 HERE = "127.0.0.1"
+# Where this machine reaches what listens for all addresses.
+NEAR = {"0.0.0.0": HERE, "::": "::1"}
 BITS, PATIENCE, GUESTS = 1200, 300, 100
 # What goes out at once goes out so often a second, at most.
 PIECES = 50
@@ -145,6 +147,11 @@ class Host:
             await line.close()
 
 
+def named(address: str, chosen: int) -> str:
+    """Address and port as a line has them."""
+    return f"[{address}]:{chosen}" if ":" in address else f"{address}:{chosen}"
+
+
 async def listen(options: argparse.Namespace) -> None:
     """Serves guests until the run is ended."""
     host = Host(options)
@@ -154,7 +161,9 @@ async def listen(options: argparse.Namespace) -> None:
         server = await asyncio.start_server(lambda *streams: host.welcome(Stream(*streams)), options.bind, options.port)
     address, chosen = server.sockets[0].getsockname()[:2]
     speed = f"{options.bits} bit/s" if options.bits else "at once"
-    say(f"host: {'ws://' if options.web else ''}{address}:{chosen}, {speed}; a test bench, and no service")
+    where, near = named(address, chosen), named(NEAR.get(address, address), chosen)
+    guest_of = f"a browser shows it at http://{near}/" if options.web else f"a guest: {program.command()} line {near}"
+    say(f"host: {'ws://' if options.web else ''}{where}, {speed}; a test bench, and no service; {guest_of}")
     await asyncio.Event().wait()
 
 

@@ -9,7 +9,7 @@ import re
 from collections.abc import Sequence
 from typing import Any
 
-from btx import files, modules, program, recording, say
+from btx import files, modules, program, recording, say, telling
 
 SUMMARY = "a file that shows pages being built, in a browser"
 VIEW = os.path.join(program.ROOT, "view")
@@ -87,8 +87,10 @@ def run(path: program.Runner, options: argparse.Namespace) -> int:
     if options.pages.count(files.STANDARD) > 1:
         say("html: standard input is one page, and - stands more than once")
         return 2
-    names = names_of(options.pages)
-    pages = [page_of(path, name, page, options.times) for name, page in zip(names, options.pages)]
-    with files.output(options.output) as file:
-        file.write(html_of(pages).encode("utf-8"))
-    return 0
+    reading = telling.Pages(path, "html")
+    read = [reading.read(page_of, name, page, options.times) for name, page in zip(names_of(options.pages), options.pages)]
+    pages = [page for page in read if page is not None]
+    if pages or not read:
+        with files.output(options.output) as file:
+            file.write(html_of(pages).encode("utf-8"))
+    return reading.status

@@ -6,7 +6,7 @@ import os
 from collections.abc import Iterable, Iterator, Mapping, Sequence
 from typing import Any
 
-from btx import html_file, making, search, website
+from btx import collection, html_file, making, search, website
 
 ENTRIES = '<script type="application/json" id="entries">[]</script>'
 # So many pages a part of the index tells of.
@@ -80,12 +80,14 @@ def folders_of(names: Sequence[str]) -> list[list[Any]]:
 
 
 def columns_of(facts: AllFacts, names: Sequence[str]) -> dict[str, Any]:
-    """What the index has of all pages: numbers for its filters and its order, folders, and letters with which a word begins."""
+    """What the index has of all pages: numbers for its filters and its order, which of them are folders that can't be read, folders, and
+    letters with which a word begins."""
     first, places = alike(facts), {name: number for number, name in enumerate(names, 1)}
     return {
         "count": len(names), "part": PART, "folders": folders_of(names),
         "status": [facts[name].status for name in names], "bytes": [facts[name].bytes or 0 for name in names],
         "refused": [facts[name].refused or 0 for name in names], "alike": [places.get(first.get(name, ""), 0) for name in names],
+        "unread": [number for number, name in enumerate(names) if collection.is_folder(name)],
     }
 
 

@@ -67,6 +67,11 @@ def unreadable(why: str, size: int | None = None) -> Facts:
     return Facts(size, Status.UNREAD, f"can't be read: {why}")
 
 
+def unreadable_folder(why: str) -> Facts:
+    """The facts of a folder of pages that can't be read."""
+    return Facts(None, Status.UNREAD, f"this folder can't be read: {why}")
+
+
 def ended(size: int, status: int) -> Facts:
     """The facts of a page at which the program ended with another status."""
     return Facts(size, status, MEANINGS.get(status, f"the program ended with status {status}"))

@@ -6,7 +6,7 @@ import sys
 from collections.abc import Callable
 from types import ModuleType
 
-from btx import canvas, files, html_file, looks, pillow, program, say
+from btx import canvas, files, html_file, looks, pillow, program, say, telling
 
 SUMMARY = "a picture of the screen at the end of each page, as PNG"
 MOST_SCALE, PHASES = 8, 6
@@ -54,6 +54,8 @@ def refused(word: str, options: argparse.Namespace) -> str | None:
         return f"a terminal shows no {word.upper()}; -o FILE writes it into a file"
     if len(options.pages) > 1 and options.output in (None, files.STANDARD):
         return "several pages take a folder, by -o FOLDER"
+    if len(options.pages) > 1 and os.path.exists(options.output) and not os.path.isdir(options.output):
+        return f"several pages take a folder, by -o FOLDER, and {options.output} is none"
     if options.pages.count(files.STANDARD) > 1:
         return "standard input is one page, and - stands more than once"
     return None
@@ -75,13 +77,17 @@ def cells_of(path: program.Runner, page: str) -> looks.Cells:
 
 
 def write(image: ModuleType, path: program.Runner, options: argparse.Namespace) -> int:
-    """Writes the picture of each page."""
+    """Writes the picture of each page that can be read."""
+    pages = telling.Pages(path, "png")
     for page, target in zip(options.pages, targets_of(options, ENDING)):
+        cells = pages.read(cells_of, page)
+        if cells is None:
+            continue
         board = canvas.Canvas(options.reveal, options.phase)
-        picture = board.picture(image, board.screen(cells_of(path, page)), options.scale)
+        picture = board.picture(image, board.screen(cells), options.scale)
         with files.output(target) as file:
             picture.save(file, "PNG")
-    return 0
+    return pages.status
 
 
 def run(path: program.Runner, options: argparse.Namespace) -> int:

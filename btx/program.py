@@ -3,6 +3,7 @@ import os
 import shlex
 import shutil
 import subprocess
+import sys
 from collections.abc import Sequence
 from typing import Protocol
 
@@ -77,9 +78,21 @@ def build_needs(*tools: str) -> str:
 
 
 def manual(name: str) -> str:
-    """The command that shows a man page: of the checkout that btx is in, or else of the system."""
-    path = os.path.join(ROOT, "docs", f"{name}.1")
-    return f"man -l {shlex.quote(path)}" if os.path.exists(path) else f"man {name}"
+    """The command that shows a man page: of the checkout that btx is in, of its prefix, or of the system, whose man looks beside each bin of
+    the PATH."""
+    prefix = os.path.dirname(os.path.dirname(ROOT))
+    is_found = os.path.join(prefix, "bin") in os.environ.get("PATH", "").split(os.pathsep)
+    installed = [] if is_found else [os.path.join(prefix, "share", "man", "man1", f"{name}.1.gz")]
+    path = next(filter(os.path.exists, [os.path.join(ROOT, "docs", f"{name}.1"), *installed]), None)
+    return f"man -l {shlex.quote(path)}" if path else f"man {name}"
+
+
+def command() -> str:
+    """This command as a shell takes it again."""
+    path, known = sys.argv[0], shutil.which("btx")
+    if os.path.basename(path) == "__main__.py":
+        return "python3 -m tamligub"
+    return "btx" if known and os.path.realpath(known) == os.path.realpath(path) else shlex.quote(path)
 
 
 def standing(beside: str) -> str | None:

@@ -351,6 +351,21 @@ class Index(stand.Case):
         self.tab.until("document.querySelectorAll('#tiles img').length === 0")
         self.assertEqual(self.tab.value("document.querySelectorAll('#tiles a').length"), 2)
 
+    def test_a_folder_that_cannot_be_read_is_counted_apart_from_the_pages(self):
+        out = self.path("out")
+        facts = {"boat.btx": making.Facts(1, 0, "read to its end, nothing refused"), "deep/": making.unreadable_folder("permission denied")}
+        facts["lost.btx"] = making.unreadable("no such file")
+        website.Website(out).begin("")
+        lists.write(out, facts, ",")
+        self.open(os.path.join(out, "index.html"))
+        self.are(["boat.btx", "deep/", "lost.btx"])
+        tiles = "[...document.querySelectorAll('#tiles li')].map((tile) => [...tile.querySelectorAll('span')].map((one) => one.textContent))"
+        why, lost = "this folder can't be read: permission denied", ["can't be read: no such file", "lost.btx", "status 4"]
+        self.assertEqual(self.tab.value(tiles)[1:], [[why, "deep/"], lost])
+        for choice, said in (("all", "2 of 2 pages, folders not read: 1"), ("unread", "1 of 2 pages, folders not read: 1"), ("whole", "1 of 2 pages")):
+            self.choose("filter", choice)
+            self.tab.until(f"document.getElementById('count').textContent === {json.dumps(said)}")
+
     def test_index_filters_searches_and_leads_to_the_viewer(self):
         self.needs_pillow()
         source = self.path("source")

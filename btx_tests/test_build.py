@@ -81,7 +81,9 @@ class Build(stand.Case):
         self.assertTrue(os.access(paths[0], os.X_OK))
         for number, name in enumerate(ORDER, 1):
             self.assertIn(f"build: {name} proved, {number} of 4", said)
-        self.assertRegex(said.splitlines()[0], r"^build: 4 crates, about 35 minutes of proof on \d+ processors")
+        first = r"^build: 4 crates, at most about 35 minutes of proof on \d+ processors; what an earlier run on this machine has proved is only taken$"
+        self.assertRegex(said.splitlines()[0], first)
+        self.assertNotIn("are left", said)
         words = self.text("seen.words").split("\n")
         self.assertEqual([word.partition("=")[0] for word in words if ".rlib" in word], ["std", "kitlib", "high", "low"])
 
@@ -174,7 +176,7 @@ class Build(stand.Case):
 class Plan(stand.Case):
     USES = {"a": [], "b": ["a"], "c": ["a"], "d": ["b"], "e": ["c", "d"]}
 
-    def test_what_is_proved_anew_is_said_once_the_rest_was_taken(self):
+    def test_what_is_left_is_said_once_something_was_taken(self):
         said = io.StringIO()
         course = plan.Plan(["cept_codes", "cept_profile"], 2)
         course.done("cept_codes", True)
@@ -182,9 +184,13 @@ class Plan(stand.Case):
             end = time.monotonic() + stand.LONG
             while not said.getvalue().endswith("\n") and time.monotonic() < end:
                 time.sleep(0.01)
-        self.assertRegex(said.getvalue(), r"^build: 1 of 2 crates are proved anew, in (less than a|about \d+) minutes? on 2 processors\n$")
+        self.assertRegex(said.getvalue(), r"^build: 1 of 2 crates are left, (less than a|at most about \d+) minutes? of proof on 2 processors\n$")
         with contextlib.redirect_stderr(said), proving.told_later(course):
             pass
+        self.assertEqual(said.getvalue().count("\n"), 1)
+        # Of what was told before the first crate nothing is said again.
+        with contextlib.redirect_stderr(said), unittest.mock.patch.object(proving, "TAKING", 0.01), proving.told_later(plan.Plan(["cept_codes"], 2)):
+            time.sleep(0.1)
         self.assertEqual(said.getvalue().count("\n"), 1)
 
     def test_a_proof_takes_what_its_order_and_the_processors_let_it(self):

@@ -79,7 +79,7 @@ class Left(archives.Case):
         self.assertIn("pages/boat.btx", self.made())
         self.assertNotIn("pages/form.btx", self.made())
 
-    def test_a_folder_that_cannot_be_read_is_listed_and_stops_nothing(self):
+    def test_a_folder_that_cannot_be_read_is_listed_as_one_and_stops_nothing(self):
         deep = "d" * 200
         os.mkdir(os.path.join(self.source, deep))
         shutil.copy(stand.page("house"), os.path.join(self.source, deep))
@@ -87,9 +87,12 @@ class Left(archives.Case):
         self.source = spun_out(self.source)
         os.remove(os.path.join(self.source, "form.btx"))
         done = self.archive()
+        self.assertIn(b"3 pages, 0 with refused items, 0 not read; 2 were there: ", done.stdout)
         self.assertIn(b"1 folder can't be read; the report names it", done.stdout)
+        top, names = data_in(os.path.join(self.out, "index.html"), "entries"), [entry[0] for entry in entries_in(self.out)]
+        self.assertEqual([names[number] for number in top["unread"]], [deep + "/"])
         report = self.report()
-        self.assertEqual((report[deep + "/"]["status"], report[deep + "/"]["meaning"]), ("4", "can't be read: file name too long"))
+        self.assertEqual((report[deep + "/"]["status"], report[deep + "/"]["meaning"]), ("4", "this folder can't be read: file name too long"))
         # What is in it may be there still, and so stays; what is gone elsewhere doesn't.
         self.assertEqual(report[f"{deep}/house.btx"]["meaning"], "read to its end, nothing refused; its folder can't be read now")
         self.assertIn(f"pages/{deep}/house.btx", self.made())

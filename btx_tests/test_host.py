@@ -3,6 +3,7 @@ import http.client
 import os
 import re
 import selectors
+import shlex
 import signal
 import socket
 import time
@@ -225,6 +226,20 @@ class Guests(HostCase):
             with open("/proc/net/tcp", encoding="ascii") as file:
                 self.assertIn(f" {address}:{port:04X} ", file.read())
 
+    def test_it_says_how_it_is_called(self):
+        """The last line ends with what a guest on this machine types, by the name by which btx was run."""
+        by_path = shlex.quote(os.path.join(stand.ROOT, "bin", "btx"))
+        os.mkdir(self.path("bin"))
+        os.symlink(os.path.join(stand.ROOT, "bin", "btx"), self.path("bin", "btx"))
+        path = os.environ["PATH"]
+        for address, places, typed in (("127.0.0.1", path, by_path), ("0.0.0.0", path, by_path), ("127.0.0.1", f"{self.path('bin')}:{path}", "btx")):
+            env = stand.environment(PATH=places)
+            run = stand.begun("host", self.path("pages"), "--port", "0", "--bind", address, env=env)
+            self.addCleanup(self.ended, run)
+            said = next(line for line in iter(run.stderr.readline, b"") if b"test bench" in line).decode()
+            port = re.search(r":(\d+),", said)[1]
+            self.assertEqual(said.partition("no service; ")[2], f"a guest: {typed} line 127.0.0.1:{port}\n")
+
     def test_an_interrupt_ends_it_quietly(self):
         self.written("pages/0.btx", b"A" * 2**22)
         run, port = self.host("--bits", "0")
@@ -273,6 +288,10 @@ class Web(HostCase):
             self.assertEqual((status, text), (200, stand.btx("viewer").stdout))
         else:
             self.assertEqual((status, b"isn't built" in text), (404, True))
+
+    def test_it_says_where_a_browser_shows_it(self):
+        _, port = self.host()
+        self.assertTrue(self.said[-1].endswith(f"; a browser shows it at http://127.0.0.1:{port}/\n"), self.said)
 
     def test_other_websites_may_not_open_it(self):
         _, port = self.host()

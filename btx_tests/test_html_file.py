@@ -49,7 +49,19 @@ class Html(stand.Case):
         self.assertNotIn(b"script><b>", document)
         self.assertEqual([page["name"] for page in self.data_in(document)], [name, name])
 
-    def test_a_page_that_cannot_be_read(self):
-        for words in (["html", "nowhere"], ["html", stand.page("title"), "nowhere"]):
-            done = stand.btx(*words, cwd=self.folder)
-            self.assertEqual((done.returncode, done.stdout, done.stderr), (4, b"", b"btx: html: nowhere: no such file\n"))
+    def test_pages_that_cannot_be_read_are_told_and_the_others_are_in_the_file(self):
+        path, lost = self.path("out.html"), self.path("lost.btx")
+        done = stand.btx("html", lost, stand.page("title"), self.folder, stand.page("boat"), "-o", path)
+        said = f"btx: html: {lost}: no such file\nbtx: html: {self.folder}: is a directory\n"
+        self.assertEqual((done.returncode, done.stdout, done.stderr.decode()), (4, b"", said))
+        with open(path, "rb") as file:
+            self.assertEqual([page["name"] for page in self.data_in(file.read())], ["title", "boat"])
+
+    def test_where_no_page_can_be_read_the_file_stays_as_it_was(self):
+        path = self.written("out.html", b"before")
+        for words in (["nowhere"], ["nowhere", "nowhere"], ["nowhere", "-o", path]):
+            done = stand.btx("html", *words, cwd=self.folder)
+            said = b"btx: html: nowhere: no such file\n" * words.count("nowhere")
+            self.assertEqual((done.returncode, done.stdout, done.stderr), (4, b"", said))
+        with open(path, "rb") as file:
+            self.assertEqual(file.read(), b"before")

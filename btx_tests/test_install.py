@@ -4,6 +4,7 @@ import glob
 import os
 import re
 import shlex
+import shutil
 import struct
 import subprocess
 import sys
@@ -12,7 +13,7 @@ import xml.etree.ElementTree
 from typing import Any
 
 import stand
-from building import deb, parts, tree
+from building import deb, desktop, parts, tree
 
 INSTALL = os.path.join(stand.ROOT, "install")
 
@@ -75,6 +76,16 @@ class Install(stand.Case):
         self.needs("man")
         self.is_right(self.run_of(INSTALL, self.path("prefix"), env=stand.environment()))
         self.reads_manual(self.path("prefix"))
+
+    def test_help_names_the_manual_that_can_be_read(self):
+        """That of the prefix by its path, and by its name alone where man finds it, beside a bin of the PATH."""
+        prefix = self.path("prefix")
+        self.is_right(self.run_of(INSTALL, prefix, env=stand.environment()))
+        path, names = os.environ["PATH"], [os.path.join(prefix, "share", "man", "man1", f"{name}.1.gz") for name in ("btx", "cept_tool")]
+        for places, said in ((path, "man -l {} and man -l {} say more".format(*names)), (f"{prefix}/bin:{path}", "man btx and man cept_tool say more")):
+            shown = self.is_right(self.run_of(os.path.join(prefix, "bin", "btx"), "--help", env=stand.environment(PATH=places))).decode()
+            # Lines of the help end where they are full, within a name too.
+            self.assertIn("".join(said.split()), "".join(shown.split()))
 
     def test_without_the_program_it_says_what_to_do(self):
         done = self.run_of(INSTALL, self.path("prefix"), env={**self.bare(), "BTX_PROGRAM": "nowhere"})
@@ -292,6 +303,52 @@ class Install(stand.Case):
         done = self.run_of(INSTALL, "--uninstall", prefix)
         self.assertEqual((done.returncode, done.stderr.decode()), (1, f"install: nothing was installed under {prefix}\n"))
 
+    def desktop_noticed(self, prefix):
+        """Makes what a desktop's commands make under a prefix: by those that are on this machine, and else empty files of the names."""
+        for notes in desktop.ALL:
+            at = os.path.join(prefix, notes.folder)
+            found = shutil.which(notes.command)
+            if found:
+                self.is_right(self.run_of(found, at))
+            else:
+                open(os.path.join(at, notes.made[-1]), "w", encoding="ascii").close()
+            self.assertTrue(os.path.exists(os.path.join(at, notes.made[-1])))
+
+    def test_what_a_desktop_made_of_an_install_goes_with_it(self):
+        """All of it where nothing else is there; else it stays, and the commands that make it again are said."""
+        prefix = self.path("pre fix")
+        self.is_right(self.run_of(INSTALL, prefix, env=stand.environment()))
+        self.desktop_noticed(prefix)
+        self.assertEqual(self.is_right(self.run_of(INSTALL, "--uninstall", prefix)), b"")
+        self.assertFalse(os.path.exists(prefix))
+        self.is_right(self.run_of(INSTALL, prefix, env=stand.environment()))
+        types = b'<mime-info xmlns="http://www.freedesktop.org/standards/shared-mime-info"/>'
+        others = [self.written(f"pre fix/share/{place}", data) for place, data in (("mime/packages/other.xml", types), ("applications/other.desktop", b""))]
+        self.desktop_noticed(prefix)
+        said = self.is_right(self.run_of(INSTALL, "--uninstall", prefix)).decode()
+        self.assertEqual(said, "".join(f"a desktop forgets .btx files after: {notes.line(prefix)}\n" for notes in desktop.ALL))
+        self.assertTrue(all(os.path.exists(os.path.join(prefix, notes.folder, notes.made[-1])) for notes in desktop.ALL))
+        self.assertTrue(all(map(os.path.exists, others)))
+        for line in said.splitlines():
+            words = shlex.split(line.partition(": ")[2])
+            if shutil.which(words[0]):
+                self.is_right(self.run_of(*words))
+                self.assertFalse(os.path.exists(os.path.join(words[1], desktop.TYPE)))
+
+    def test_an_install_says_what_makes_a_desktop_know_it(self):
+        """Each command by itself, and the package of one that isn't there."""
+        os.mkdir(self.path("bin"))
+        self.written("bin/update-mime-database", b"#!/bin/sh\n")
+        os.chmod(self.path("bin", "update-mime-database"), 0o755)
+        os.symlink(sys.executable, self.path("bin", "python3"))
+        done = self.run_of(INSTALL, self.path("prefix"), env=stand.environment(PATH=self.path("bin")), cwd=self.folder)
+        share = self.path("prefix", "share")
+        self.assertEqual(self.is_right(done).decode().splitlines()[-3:], [
+            f"a desktop knows .btx files after: update-mime-database {share}/mime",
+            f"a desktop opens them after: update-desktop-database {share}/applications",
+            "update-desktop-database isn't on this machine (Debian: apt-get install desktop-file-utils)",
+        ])
+
     def test_a_package_where_nothing_may_be_written(self):
         self.needs("dpkg", "dpkg-deb")
         # Where another user comes to, wherever tests keep their own.
@@ -307,7 +364,8 @@ class Install(stand.Case):
         here = f"{folder}: no package can be made there, since you may not write in it"
         for name, said in ((folder, here), (f"{folder}/in", f"{folder}/in: Permission denied")):
             done = self.run_of(INSTALL, "--deb", name, env=stand.environment(), **keys)
-            self.assertEqual((done.returncode, done.stdout, done.stderr.decode()), (1, b"", f"install: {said}\n"))
+            # Where no library was built, it says so before.
+            self.assertEqual((done.returncode, done.stdout, done.stderr.decode().splitlines()[-1:]), (1, b"", [f"install: {said}"]))
 
     def test_the_manual_knows_all_statuses_of_the_program(self):
         texts = {}

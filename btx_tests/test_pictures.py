@@ -4,6 +4,7 @@ import io
 import json
 import os
 import re
+import shutil
 import unicodedata
 import xml.etree.ElementTree
 
@@ -94,6 +95,19 @@ class Png(Case):
             with open(os.path.join(folder, name + ".png"), "rb") as file:
                 self.assertEqual(file.read(), stand.btx("png", stand.page(name)).stdout)
 
+    def test_pages_that_cannot_be_read_are_told_and_the_others_are_painted(self):
+        self.pillow()
+        lost, long, out = self.path("lost.btx"), self.path("long.btx"), self.path("out")
+        with open(long, "wb") as file:
+            file.truncate(2**24 + 1)
+        # The status is that of the first that can't be read.
+        for bad, status in (([lost, self.folder], 4), ([long, lost], 7)):
+            done = stand.btx("png", bad[0], stand.page("title"), bad[1], stand.page("boat"), "-o", out)
+            self.assertEqual((done.returncode, sorted(os.listdir(out))), (status, ["boat.png", "title.png"]))
+            said = done.stderr.decode().splitlines()
+            self.assertEqual([line.split(": ")[:3] for line in said], [["btx", "png", one] for one in bad])
+            shutil.rmtree(out)
+
     def test_pages_of_one_name_have_a_picture_each(self):
         self.pillow()
         for folder in "ab":
@@ -104,7 +118,8 @@ class Png(Case):
 
     def test_words_that_are_none(self):
         page = stand.page("title")
-        for words in ((page, page), (page, page, "-o", "-"), (page, "--scale", "9"), (page, "--scale", "0"), (page, "--phase", "6")):
+        several = ((page, page), (page, page, "-o", "-"), (page, page, "-o", page))
+        for words in (*several, (page, "--scale", "9"), (page, "--scale", "0"), (page, "--phase", "6")):
             self.assertEqual(stand.btx("png", *words).returncode, 2, words)
 
     def test_without_pillow_it_says_so(self):

@@ -3,7 +3,6 @@ in C are built with."""
 import gzip
 import os
 import re
-import shlex
 
 from btx import VERSION, command, completion, program
 from building import ROOT, shared, shipped
@@ -76,12 +75,6 @@ def put_desktop(tree):
         text = text_of(f"desktop/{name}").replace("@prefix@", prefix).replace("@quoted@", quoted)
         tree.write(f"{place}/{name}", text.encode())
     tree.copy(f"share/{NAME}/open_page", source("desktop/open_page"), 0o755)
-
-
-def made_known(prefix):
-    """The commands by which a desktop takes notice of what was put or taken away under a prefix."""
-    types, entries = (shlex.quote(os.path.join(prefix, place)) for place in ("share/mime", "share/applications"))
-    return [f"update-mime-database {types}", f"update-desktop-database {entries}"]
 
 
 def put_program(tree, binary):

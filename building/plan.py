@@ -70,7 +70,8 @@ class Plan:
         self.left = minutes_of(names)
         self.total, self.count = len(names), 0
         # When the proof began, when the last crate was taken of an earlier run, and the minutes of all that were.
-        self.begun = self.took = time.monotonic()
+        self.begun = time.monotonic()
+        self.took: float | None = None
         self.taken = 0.0
         self.whole = self.rest()
 
@@ -78,9 +79,18 @@ class Plan:
         """The minutes that the rest takes by the table alone."""
         return span(self.left, self.uses, self.lanes)
 
+    def beginning(self):
+        """What is said before the first crate. Which of them earlier runs have proved shows only as they are taken."""
+        whole = f"{at_most(self.whole)} of proof on {self.lanes} processors"
+        return f"{self.total} crates, {whole}; what an earlier run on this machine has proved is only taken"
+
     def ahead(self):
-        """What is said of the crates that no earlier run has proved."""
-        return f"{len(self.left)} of {self.total} crates are proved anew, in {about(self.rest())} on {self.lanes} processors"
+        """What is said of the crates that are neither proved nor taken yet, of which more may be taken."""
+        return f"{len(self.left)} of {self.total} crates are left, {at_most(self.rest())} of proof on {self.lanes} processors"
+
+    def quiet(self, seconds):
+        """How many of so many seconds are left until nothing was taken for as long; all of them while nothing was taken."""
+        return seconds if self.took is None else max(0.0, self.took + seconds - time.monotonic())
 
     def done(self, name, taken=False):
         """Notes that a crate is proved, or that an earlier run has proved it, and answers what is said of that."""
@@ -95,6 +105,11 @@ class Plan:
         worked, minutes = self.whole - self.taken - rest, (time.monotonic() - self.begun) / 60
         pace = max(FASTEST, min(SLOWEST, minutes / worked)) if worked > ENOUGH else 1
         return f"{name} proved, {self.count} of {self.total}" + (f"; {about(rest * pace)} left" if self.left else "")
+
+
+def at_most(minutes):
+    """Minutes that it may take, as they are said."""
+    return about(minutes) if minutes < 1 else f"at most {about(minutes)}"
 
 
 def about(minutes):

@@ -4,7 +4,6 @@ import os
 import re
 import subprocess
 import threading
-import time
 
 from building import ROOT, Stop, kit, running, tell
 
@@ -12,7 +11,7 @@ LOG = os.path.join(ROOT, "out", "build.log")
 ENDED = re.compile(r"rt: (\w+) (proved|is kept|NOT PROVED)\b")
 SAID = re.compile(r"rt: (.*\bwaiting for .*|note: .*)")
 SHOWN = 30
-# The seconds after which `rt ci` takes nothing more of what it has proved earlier, counted from the last crate that it took.
+# So many seconds after the last crate that `rt ci` took of an earlier run it is said, once, what is left.
 TAKING = 20
 
 
@@ -40,12 +39,12 @@ def follow(lines, course, log):
 
 @contextlib.contextmanager
 def told_later(course):
-    """Once nothing more is taken of what was proved earlier, says what is left to prove."""
+    """Where something was taken of what was proved earlier, and then nothing for a while, says what is left."""
     ended = threading.Event()
 
     def tell_then():
-        while not ended.wait(max(0.0, course.took + TAKING - time.monotonic())):
-            if time.monotonic() >= course.took + TAKING:
+        while not ended.wait(course.quiet(TAKING)):
+            if not course.quiet(TAKING):
                 if course.left:
                     tell(course.ahead())
                 break

@@ -62,8 +62,7 @@ def signs_for_c(work):
 def begin(names):
     """The plan of these crates; says how long they take."""
     lacking, course = module.lacking(), plan.Plan(names, len(os.sched_getaffinity(0)))
-    whole = f"{plan.about(course.whole)} of proof on {course.lanes} processors"
-    tell(f"{course.total} crates, {whole}; what an earlier run has proved is taken")
+    tell(course.beginning())
     if lacking:
         tell(lacking)
     return course

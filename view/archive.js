@@ -4,13 +4,14 @@ import { grouped, joinLanguages, kept, onLanguage, title, word } from "./languag
 
 /**
  * What is shown of a page, and of all pages: how many there are, and for each its status, bytes, refused items, and the number of the first
- * with its screen; the folders with their first page and that after the last; the files of words by the first letters.
+ * with its screen; which of them are no pages but folders that can't be read; the folders with their first page and that after the last; the
+ * files of words by the first letters.
  * @typedef {{
  *   name: string, address: string, bytes: number | null, status: number, items: number, refused: number, meaning: string, title: string,
  *   alike: string,
  * }} Entry
  * @typedef {{
- *   count: number, part: number, status: number[], bytes: number[], refused: number[], alike: number[],
+ *   count: number, part: number, status: number[], bytes: number[], refused: number[], alike: number[], unread: number[],
  *   folders: [place: string, from: number, to: number][], letters: Record<string, string>,
  * }} All
  */
@@ -36,6 +37,7 @@ const WORD = /[\p{L}\p{N}]+/gu;
 /** @type {All} */
 const all = JSON.parse(part("entries").textContent);
 const letters = Object.keys(all.letters);
+const unreadFolders = new Set(all.unread);
 /** @param {number} status */
 const isRead = (status) => status === 0 || status === 1;
 /** @type {Record<string, (number: number) => boolean>} */
@@ -130,8 +132,9 @@ function factsOf(entry) {
   return (note ? [...facts, note] : facts).join(", ");
 }
 
-/** @param {Entry} entry */
-function tile(entry) {
+/** @param {number} number */
+function tile(number) {
+  const entry = entryAt(number);
   const item = make("li");
   const holder = isRead(entry.status) ? make("a") : make("div");
   if (holder instanceof HTMLAnchorElement) {
@@ -142,7 +145,8 @@ function tile(entry) {
   }
   if (entry.title) holder.append(make("span", "title", entry.title));
   holder.append(make("span", "name", entry.name));
-  item.append(holder, make("span", "facts", factsOf(entry)));
+  item.append(holder);
+  if (!unreadFolders.has(number)) item.append(make("span", "facts", factsOf(entry)));
   return item;
 }
 
@@ -168,7 +172,7 @@ async function showMore() {
   await Promise.all([...new Set(next.map(partOf))].map((number) => fetched(`entries/${number}.js`)));
   if (mine !== turn) return;
   if (!begun) part("tiles").replaceChildren();
-  part("tiles").append(...next.map((number) => tile(entryAt(number))));
+  part("tiles").append(...next.map(tile));
   showUpTo(begun + next.length);
 }
 
@@ -269,6 +273,13 @@ function numbers(wanted) {
   return order ? some.sort(order) : some;
 }
 
+// How many of all pages are chosen, and apart from them how many folders that can't be read.
+function countOf() {
+  const folders = chosen.filter((number) => unreadFolders.has(number)).length;
+  const pages = word("count", { some: grouped(chosen.length - folders), all: grouped(all.count - unreadFolders.size) });
+  return folders ? `${pages}, ${word("unreadFolders", { some: grouped(folders) })}` : pages;
+}
+
 async function choose() {
   const mine = ++turn;
   const wanted = folded(part("search").value).match(WORD) || [];
@@ -276,7 +287,7 @@ async function choose() {
   await Promise.all(wanted.flatMap(lettersOf).map((first) => fetched(`words/${all.letters[first]}`)));
   if (mine !== turn) return;
   chosen = numbers(wanted);
-  part("count").textContent = word("count", { some: grouped(chosen.length), all: grouped(all.count) });
+  part("count").textContent = countOf();
   part("none-found").hidden = chosen.length > 0;
   shown = 0;
   showFolders();
