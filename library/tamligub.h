@@ -79,7 +79,7 @@ uint32_t tamligub_run(const uint8_t *word, size_t word_length, uint32_t given, u
  *   that are written stays as it is.
  * - The room for notices is that for a byte, or for a phase of flashing, or more. Where it is less nothing is done.
  *
- * A decoder takes all its memory by malloc when it is opened, about 240 KB; after that only tamligub_write and tamligub_snapshot take
+ * A decoder takes all its memory by malloc when it is opened, 247 KB; after that only tamligub_write and tamligub_snapshot take
  * some, and give it back, and the first edit takes about 2.3 MB, which are given back when the decoder is closed.
  * Where a call answers 1 no more was done than that `notices` is 0. */
 

@@ -22,7 +22,7 @@
 //   close()             gives its memory back
 //
 // Notices, states and colours are objects with the fields of tamligub.h; where there is no pattern it is null. What can't be done is
-// thrown; a line outside the grammar as a BadLine with its reason, 1 to 6.
+// thrown; a line outside the grammar as a BadLine with its reason, 1 to 6. Bytes are a Uint8Array; a TypeError says so of anything else.
 "use strict";
 
 const PAGE_OF_MEMORY = 65536;
@@ -33,6 +33,7 @@ const NO_ROOM = 5;
 const NO_MEMORY = 6;
 const TOO_LONG = 7;
 const MOST_ROOM = 1 << 29;
+const MOST_NUMBER = 2 ** 32 - 1;
 
 // What is given: nothing, a page, a page and a script, a number, a page and a number.
 function givenOf({ page, script, number }) {
@@ -41,9 +42,21 @@ function givenOf({ page, script, number }) {
     return number === undefined ? 1 : 4;
 }
 
+// Bytes that are handed in, of this window or of another one; a Buffer of Node is a Uint8Array too.
+function bytesIn(bytes, takes = "a Uint8Array") {
+    const kind = Object.prototype.toString.call(bytes).slice(8, -1);
+    if (kind !== "Uint8Array") throw new TypeError(`it takes bytes, ${takes}, and not ${kind}`);
+    return bytes;
+}
+
+// Whether a number is whole and in a range; the module would take any other one as one that is.
+function isWithin(number, most) {
+    return Number.isInteger(number) && number >= 0 && number <= most;
+}
+
 function call(module, word, things, room) {
     const { memory, tamligub_run } = new WebAssembly.Instance(module).exports;
-    const parts = [new TextEncoder().encode(word), things.page ?? new Uint8Array(), things.script ?? new Uint8Array()];
+    const parts = [new TextEncoder().encode(word), ...[things.page, things.script].map((bytes) => bytesIn(bytes ?? new Uint8Array()))];
     const sizes = [8, ...parts.map((part) => part.length), room];
     const starts = [];
     let end = memory.buffer.byteLength;
@@ -61,6 +74,7 @@ function call(module, word, things, room) {
 }
 
 function run(module, word, things = {}) {
+    if (!isWithin(things.number ?? 0, MOST_NUMBER)) throw new RangeError(`${things.number} is no number from 0 to ${MOST_NUMBER}`);
     for (let room = 1 << 20; ; room *= 4) {
         const answer = call(module, word, things, room);
         if (answer.status !== NO_ROOM || room >= MOST_ROOM) return answer;
@@ -238,6 +252,7 @@ class Decoder {
     // Feeds bytes in pieces; after each of them what they say stands in the list.
     feedIn(bytes, after) {
         const { wasm, bytes: at, list, number } = this.shared;
+        bytesIn(bytes);
         while (bytes.length > 0) {
             const piece = bytes.subarray(0, BYTES_AT_ONCE);
             new Uint8Array(wasm.memory.buffer).set(piece, at);
@@ -266,7 +281,7 @@ class Decoder {
 
     // Makes a line of a script, as text or as bytes, without its end; answers whether there was something to make.
     make(text) {
-        const { shared } = this, line = typeof text === "string" ? new TextEncoder().encode(text) : text;
+        const { shared } = this, line = typeof text === "string" ? new TextEncoder().encode(text) : bytesIn(text, "a Uint8Array or a string");
         shared.handIn(line);
         const places = [shared.line, line.length, shared.list, ROOM, shared.number, shared.reason].map(BigInt);
         const answer = this.call("tamligub_line", ...places);
@@ -296,7 +311,8 @@ class Decoder {
 
     look(row, column) {
         const { list } = this.shared;
-        if (this.call("tamligub_look", row, column, BigInt(list)) !== 0) throw new RangeError("there is no such place");
+        const isThere = isWithin(row, 255) && isWithin(column, 255) && this.call("tamligub_look", row, column, BigInt(list)) === 0;
+        if (!isThere) throw new RangeError("there is no such place");
         return noticeAt(this.shared.view(), list);
     }
 
@@ -329,6 +345,7 @@ class Decoder {
 
     // A decoder in the state that a snapshot has.
     static restored(host, snapshot) {
+        bytesIn(snapshot);
         const decoder = new Decoder(host), { shared } = decoder;
         while (shared.room < snapshot.length) shared.makeRoom();
         new Uint8Array(shared.wasm.memory.buffer).set(snapshot, shared.out);

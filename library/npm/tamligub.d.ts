@@ -121,7 +121,8 @@ export class BadLine extends Error {
 /** The module: by default the one of this package, else of its bytes, a Response, or what stands at a place. */
 export function load(source?: WebAssembly.Module | BufferSource | Response | URL | string): Promise<WebAssembly.Module>;
 
-/** Runs the program on a word, such as "show" or "changes", and what is given after it. Nothing is kept between calls. */
+/** Runs the program on a word, such as "show" or "changes", and what is given after it. Nothing is kept between calls. A RangeError is thrown
+ * of a number that isn't whole or out of its range. */
 export function run(module: WebAssembly.Module, word: string, given?: Given): Answer;
 
 /** A decoder that is fed bytes as they come, and then edited line by line. Many of them may live in one instance. What can't be done is thrown. */
@@ -143,7 +144,7 @@ export class Decoder {
     /** How many edits can be taken back, and how many were and can be made again, 0 to 64. */
     kept(): number;
     undone(): number;
-    /** How a place looks: row 1 to 24, column 1 to 40. */
+    /** How a place looks: row 1 to 24, column 1 to 40; a RangeError is thrown of any other. */
     look(row: number, column: number): Notice;
     state(): State;
     colours(): Colours;

@@ -2,10 +2,12 @@
 //
 //   node decoder.js MODULE pages SEED TURNS FILE..   what the program in decoder.c puts of these pages; all decoders are in one instance
 //   node decoder.js MODULE many FILE..               1,000 decoders opened, fed and closed in one instance take no more memory than the
-//                                                    first ones, whatever order they are closed in; and what can't be done is thrown
+//                                                    first ones, whatever order they are closed in; and what can't be done is thrown,
+//                                                    as is what isn't bytes where they are taken
 "use strict";
 const fs = require("fs");
 const path = require("path");
+const vm = require("vm");
 const { run, Decoder } = require(path.join(__dirname, "..", "tamligub.js"));
 const { drawing, line, changes, cells, flashing } = require(path.join(__dirname, "notices.js"));
 
@@ -60,6 +62,26 @@ function isThrown(call) {
     }
 }
 
+// Each call that takes bytes says so of what is none.
+function sayWhatTheyTake(module, decoder) {
+    const calls = [(data) => decoder.feed(data), (data) => decoder.skim(data), (data) => Decoder.restored(module, data),
+        (page) => run(module, "show", { page }), (script) => run(module, "edit", { page: new Uint8Array(), script })];
+    const things = [["A", "String"], [5, "Number"], [[65], "Array"], [new ArrayBuffer(1), "ArrayBuffer"]];
+    const cases = things.flatMap(([thing, kind]) => calls.map((call) => [call, thing, `a Uint8Array, and not ${kind}`]));
+    for (const [call, thing, said] of [...cases, [(line) => decoder.line(line), 5, "a Uint8Array or a string, and not Number"]]) {
+        try {
+            call(thing);
+            fail(`${call} takes ${thing}`);
+        } catch (fault) {
+            if (!(fault instanceof TypeError) || fault.message !== `it takes bytes, ${said}`) fail(`${call} of ${thing}: ${fault}`);
+        }
+    }
+    // Bytes of another context, and those of Node.
+    for (const bytes of [vm.runInNewContext("Uint8Array.of(65)"), Buffer.from("A")]) {
+        if (new Decoder(module).feed(bytes).length !== 1) fail("bytes of another kind say nothing");
+    }
+}
+
 function many(module, paths) {
     const instance = new WebAssembly.Instance(module), { memory } = instance.exports, draw = drawing(7);
     const all = paths.map((name) => new Uint8Array(fs.readFileSync(name)));
@@ -77,10 +99,14 @@ function many(module, paths) {
     }
     if (memory.buffer.byteLength !== taken) fail(`the memory grew from ${taken} to ${memory.buffer.byteLength} bytes`);
     const last = new Decoder(instance);
+    sayWhatTheyTake(module, last);
     last.finish();
     if (!isThrown(() => last.feed(Uint8Array.of(65))) || !isThrown(() => last.finish())) fail("a page that has ended goes on");
     if (!isThrown(() => last.snapshot()) || !isThrown(() => Decoder.restored(instance, all[0]))) fail("there is a snapshot that is none");
-    if (!isThrown(() => last.look(0, 1)) || !isThrown(() => last.look(1, 41))) fail("there is a place that isn't there");
+    const nowhere = [[0, 1], [1, 41], [257, 1], [1, 257], [1.5, 1], ["1", 1]];
+    if (!nowhere.every((place) => isThrown(() => last.look(...place)))) fail("there is a place that isn't there");
+    const wrong = [-1, 1.5, 2 ** 32, "1"];
+    if (!wrong.every((number) => isThrown(() => run(module, "gen", { number })))) fail("a number that is none was taken");
     [...open, last].forEach((decoder) => (decoder.close(), decoder.close()));
     if (!isThrown(() => last.feed(Uint8Array.of(65))) || !isThrown(() => last.look(1, 1))) fail("a closed decoder does something");
     const page = all[0], answer = run(module, "changes", { page });

@@ -43,7 +43,7 @@ class Answer(NamedTuple):
 
 
 class Missing(OSError):
-    """The shared library isn't on this machine; the text says where it was looked for."""
+    """The shared library isn't on this machine, or can't be loaded; the text says where it was looked for."""
 
 
 BYTES, SIZE, WORD, COUNT = ctypes.c_void_p, ctypes.c_size_t, ctypes.c_uint32, ctypes.POINTER(ctypes.c_uint64)
@@ -100,8 +100,24 @@ def library() -> ctypes.CDLL:
             try:
                 return at(place)
             except OSError as fault:
-                raise Missing(f"there is no {NAME}: {fault}; {VARIABLE} can name it") from fault
+                told = f"looked for as {', '.join(looked)}; ./build of a checkout makes it, and {VARIABLE} can name it"
+                raise Missing(f"the shared library {NAME} can't be loaded: {told} ({fault})") from None
     raise AssertionError("the last place is always tried")
+
+
+def held(data: bytes | bytearray | memoryview, takes: str = "bytes, a bytearray or a memoryview") -> bytes:
+    """What is handed in, as bytes; TypeError where it is no buffer, with what the call takes.
+
+    >>> held(memoryview(b"A"))
+    b'A'
+    >>> held("A")
+    Traceback (most recent call last):
+    TypeError: it takes bytes, a bytearray or a memoryview, and not str
+    """
+    try:
+        return data if isinstance(data, bytes) else bytes(memoryview(data))
+    except TypeError:
+        raise TypeError(f"it takes {takes}, and not {type(data).__name__}") from None
 
 
 def address(data: bytes) -> int:
@@ -140,11 +156,14 @@ def run(
         # Only what is written of it takes memory.
         with mmap.mmap(-1, room, flags=mmap.MAP_PRIVATE | mmap.MAP_ANONYMOUS) as kept:
             out = (ctypes.c_char * room).from_buffer(kept)
-            status = called(
-                address(name), len(name), given, number or 0, address(first), len(first), address(second), len(second),
-                ctypes.addressof(out), room, ctypes.byref(put),
-            )
-            del out
+            try:
+                status = called(
+                    address(name), len(name), given, number or 0, address(first), len(first), address(second), len(second),
+                    ctypes.addressof(out), room, ctypes.byref(put),
+                )
+            finally:
+                # The room can be given back only once nothing leads into it, after an interrupt too.
+                del out
             if status != NO_ROOM or room == MOST_ROOM:
                 return Answer(status, kept[: put.value])
         room = min(MOST_ROOM, 4 * room)

@@ -3,6 +3,7 @@ and drawings 2^20, and `TooLong` is raised by longer ones. MemoryError comes whe
 from __future__ import annotations
 
 from dataclasses import dataclass
+from operator import index
 
 from . import binding
 from .faults import BadScript, NotSeven, TooLong
@@ -45,7 +46,7 @@ def check(page: bytes) -> Check:
     >>> check(b"A\\x9b\\x9b")
     Check(items=3, refused=(Refusal(at=1, length=1, reason=6), Refusal(at=2, length=1, reason=7)))
     """
-    *lines, last = text_of("check", bytes(page)).decode().splitlines()
+    *lines, last = text_of("check", binding.held(page)).decode().splitlines()
     fields = (line.split(" ") for line in lines)
     return Check(int(last.split(" ")[1]), tuple(Refusal(int(at), int(length), int(reason)) for _, at, length, reason, _ in fields))
 
@@ -58,10 +59,11 @@ def changes(page: bytes) -> Notices:
     """
     from .decoder import Decoder
 
-    if len(page) > 2**24:
+    held = binding.held(page)
+    if len(held) > 2**24:
         raise TooLong("the page has more than 2^24 bytes")
     with Decoder() as decoder:
-        return Notices(decoder.feed(page).buffer + decoder.finish().buffer)
+        return Notices(decoder.feed(held).buffer + decoder.finish().buffer)
 
 
 def show(page: bytes) -> str:
@@ -70,12 +72,12 @@ def show(page: bytes) -> str:
     >>> show(b"Guten Tag").splitlines()[0].rstrip()
     'Guten Tag'
     """
-    return text_of("show", bytes(page)).decode("utf-8")
+    return text_of("show", binding.held(page)).decode("utf-8")
 
 
 def write(page: bytes) -> bytes:
     """The page at its end as bytes, which bring it back: nothing in them is refused, and written again they are the same."""
-    return text_of("write", bytes(page))
+    return text_of("write", binding.held(page))
 
 
 def edit(page: bytes, script: bytes) -> bytes:
@@ -87,7 +89,7 @@ def edit(page: bytes, script: bytes) -> bytes:
     Traceback (most recent call last):
     tamligub.faults.BadScript: line 2: BadNumber
     """
-    return text_of("edit", bytes(page), bytes(script))
+    return text_of("edit", binding.held(page), binding.held(script))
 
 
 def plot(page: bytes, drawing: bytes) -> bytes:
@@ -96,7 +98,7 @@ def plot(page: bytes, drawing: bytes) -> bytes:
     >>> show(plot(b"", b"plot 0 0\\n"))[0] == " "
     False
     """
-    return text_of("plot", bytes(page), bytes(drawing))
+    return text_of("plot", binding.held(page), binding.held(drawing))
 
 
 def seven(page: bytes) -> bytes:
@@ -105,20 +107,21 @@ def seven(page: bytes) -> bytes:
     >>> seven(b"A\\xe1")
     b'A\\x0ea\\x0f'
     """
-    return text_of("seven", bytes(page))
+    return text_of("seven", binding.held(page))
 
 
 def eight(page: bytes) -> bytes:
     """Bytes in seven bits back in eight. `NotSeven` where they aren't in seven."""
-    return text_of("eight", bytes(page))
+    return text_of("eight", binding.held(page))
 
 
 def generated(number: int) -> bytes:
-    """The generated page of a number, 0 to 4294967295: for measures and tests.
+    """The generated page of a number, 0 to 4294967295: for measures and tests. ValueError where it is another, TypeError where it is no
+    whole number.
 
     >>> len(generated(0)) > 20000
     True
     """
-    if not 0 <= number <= MOST_NUMBER:
+    if not 0 <= index(number) <= MOST_NUMBER:
         raise ValueError(f"{number} is no number from 0 to {MOST_NUMBER}")
     return text_of("gen", number=number)
