@@ -1,30 +1,22 @@
 //! Laws of the sets: functions that do nothing, and whose clauses say what holds of the words that
 //! clauses use.
-ghost use Rattle.std.specs.Prelude.{◌≡◌, ℕ, ◌≤◌, ◌<◌, ◌==◌, Bool, true, false, None, if◌then◌else◌};
+ghost use Rattle.std.specs.Prelude.{◌≡◌, ℕ, ◌≤◌, ◌<◌, ◌==◌, Bool, true, false, Some, None, if◌then◌else◌};
 ghost use Rattle.cept_codes.specs.declared.glyph.SetId.{SetId};
 ghost use Rattle.cept_codes.specs.Command.{IsGraphic};
-ghost use Rattle.cept_profile.specs.Sets.{IsValidRead, Sets, code_of, sets_with, graphic};
-ghost use Rattle.cept_profile.specs.Sets.{initial_sets, sets_with_left, sets_with_right};
-ghost use Rattle.cept_profile.specs.Sets.{locked_set};
-ghost use Rattle.cept_profile.specs.Sets.{read_as, set_in, set_of, sets_with_single, sign};
-ghost use Rattle.cept_profile.specs.Sets.{sets_without_single};
+ghost use Rattle.cept_profile.specs.Sets.{IsValidRead, Sets, code_of, sets_with};
+ghost use Rattle.cept_profile.specs.Sets.{initial_sets, read_as, set_in, set_of, sign};
 ghost use Rattle.cept_profile.specs.Valid.{AreValidSets};
 
 use cept_codes::{Read, SetId};
 
-/// A single shift is spent by the next graphic byte, whatever it is: the byte is of the set that
-/// the shift names, the locked sets are after it as before, and the byte after it is read as though
-/// no shift had come. A later shift replaces one that waits.
+/// While a single shift waits, a byte is of the set that the shift names, in a mosaic run too. Once
+/// it is spent, bytes are read as though no shift had come.
 #[tactic(auto, unfolding(cept_profile::specs::Sets::set_of))]
 pub fn single_shifts_are_spent()
     ensures named { (s : Sets) (g byte : ℕ) (run : Bool)
-        → set_of (sets_with_single s g) byte run ≡ set_in s g }
-    ensures spent { (s : Sets) (g byte : ℕ) (run : Bool)
-        → (graphic (sets_with_single s g) byte run).sets ≡ sets_without_single s }
-    ensures after { (s : Sets) (g byte next : ℕ) (run : Bool)
-        → set_of (graphic (sets_with_single s g) byte run).sets next run ≡ locked_set s next run }
-    ensures replaced { (s : Sets) (g h : ℕ)
-        → sets_with_single (sets_with_single s g) h ≡ sets_with_single s h }
+        → set_of (record s { single = Some g }) byte run ≡ set_in s g }
+    ensures after { (s : Sets) (g byte : ℕ) (run : Bool) → s.single ≡ None
+        → set_of (record (record s { single = Some g }) { single = None }) byte run ≡ set_of s byte run }
 {}
 
 /// Designating a set leaves the others, and the shifts.
@@ -53,14 +45,13 @@ pub fn sets_stay_valid()
     ensures designated { (s : Sets) (g : ℕ) (set : SetId) → AreValidSets s
         → AreValidSets (sets_with s g set) }
     ensures locked_left { (s : Sets) (g : ℕ) → g ≤ 3 → AreValidSets s
-        → AreValidSets (sets_with_left s g) }
+        → AreValidSets (record s { left = g }) }
     ensures locked_right { (s : Sets) (g : ℕ) → 1 ≤ g → g ≤ 3 → AreValidSets s
-        → AreValidSets (sets_with_right s g) }
+        → AreValidSets (record s { right = g }) }
     ensures shifted { (s : Sets) (g : ℕ) → 2 ≤ g → g ≤ 3 → AreValidSets s
-        → AreValidSets (sets_with_single s g) }
-    ensures graphic { (s : Sets) (byte : ℕ) (run : Bool) → AreValidSets s
-        → AreValidSets (graphic s byte run).sets }
+        → AreValidSets (record s { single = Some g }) }
+    ensures spent { (s : Sets) → AreValidSets s → AreValidSets (record s { single = None }) }
     ensures read { (s : Sets) (byte : ℕ) (run : Bool) → IsGraphic byte
-        → IsValidRead (graphic s byte run).read }
+        → IsValidRead (read_as (set_of s byte run) (code_of byte)) }
     ensures space { (set : SetId) → read_as set 0x20 ≡ Read.Glyph (sign SetId.P 0x20) }
 {}

@@ -1,4 +1,4 @@
-ghost use Rattle.std.specs.Prelude.{◌≡◌, ◌≤◌, ◌↔◌};
+ghost use Rattle.std.specs.Prelude.{◌≡◌, ◌≤◌, ◌↔◌, Some, None};
 ghost use Rattle.cept_codes.specs.Command.{IsGraphic};
 ghost use Rattle.cept_profile.specs.Sets.{IsAccent, IsValidRead, code_of, read_as};
 
@@ -57,10 +57,8 @@ impl Model for Sets {
 
 impl Sets {
     ghost use Rattle.cept_codes.specs.Command.{IsGraphic};
-    ghost use Rattle.cept_profile.specs.Sets.{IsAccent, IsValidRead, code_of, sets_with, graphic};
-    ghost use Rattle.cept_profile.specs.Sets.{initial_sets, sets_with_left, sets_with_right};
-    ghost use Rattle.cept_profile.specs.Sets.{set_in};
-    ghost use Rattle.cept_profile.specs.Sets.{set_of, sets_with_single};
+    ghost use Rattle.cept_profile.specs.Sets.{IsAccent, IsValidRead, code_of, read_as, sets_with};
+    ghost use Rattle.cept_profile.specs.Sets.{initial_sets, set_in, set_of};
     ghost use Rattle.cept_profile.specs.Valid.{AreValidSets};
 
     /// G0 is P, G1 is M, G2 is S and G3 is N; G0 is locked to the left and G2 to the right.
@@ -96,7 +94,7 @@ impl Sets {
     /// Locks G0, G1, G2 or G3 to the left bytes.
     pub fn lock_left(&mut self, g: u8)
         requires { g ≤ 3 }
-        ensures locked { self.new ≡ sets_with_left self.old g }
+        ensures locked { self.new ≡ record self.old { left = g } }
         ensures valid { AreValidSets self.new }
     {
         self.left = g;
@@ -105,7 +103,7 @@ impl Sets {
     /// Locks G1, G2 or G3 to the right bytes.
     pub fn lock_right(&mut self, g: u8)
         requires { (1 ≤ g) × (g ≤ 3) }
-        ensures locked { self.new ≡ sets_with_right self.old g }
+        ensures locked { self.new ≡ record self.old { right = g } }
         ensures valid { AreValidSets self.new }
     {
         self.right = g;
@@ -114,7 +112,7 @@ impl Sets {
     /// Shifts the next graphic byte to G2 or G3. A shift that waits is replaced.
     pub fn single(&mut self, g: u8)
         requires { (2 ≤ g) × (g ≤ 3) }
-        ensures shifted { self.new ≡ sets_with_single self.old g }
+        ensures shifted { self.new ≡ record self.old { single = Some g } }
         ensures valid { AreValidSets self.new }
     {
         self.single = Some(g);
@@ -145,8 +143,8 @@ impl Sets {
     /// on.
     pub fn graphic(&mut self, byte: u8, run: bool) -> Read
         requires { IsGraphic byte }
-        ensures read { result ≡ (graphic self.old byte run).read }
-        ensures sets { self.new ≡ (graphic self.old byte run).sets }
+        ensures read { result ≡ read_as (set_of self.old byte run) (code_of byte) }
+        ensures sets { self.new ≡ record self.old { single = None } }
         ensures accent { (result ≡ Read.Accent (code_of byte))
             ↔ ((set_of self.old byte run ≡ SetId.S) × IsAccent (code_of byte)) }
         ensures valid_read { IsValidRead result }

@@ -2,24 +2,19 @@
 -- of 4/0 to 4/15 of set S are accents and no signs, is this profile's own).
 use Rattle.std.specs.Prelude.{ℕ, ◌≡◌, ◌≤◌, ◌<◌, ◌⊎◌}
 use Rattle.cept_codes.specs.declared.glyph.SetId.{SetId}
-use Rattle.cept_codes.specs.declared.glyph.SetId.TheVariants.{P, S, M, N, D}
+use Rattle.cept_codes.specs.declared.glyph.SetId.TheVariants.{P, S}
 use Rattle.cept_codes.specs.declared.glyph.Glyph.{Glyph}
 
 -- no accent, or an accent of set S on a sign of set P
 abbrev pub IsValidAccent : SetId → ℕ → Type 0
 IsValidAccent P accent = (accent ≡ 0) ⊎ ((0x40 ≤ accent) × (accent ≤ 0x4F))
-IsValidAccent S accent = accent ≡ 0
-IsValidAccent M accent = accent ≡ 0
-IsValidAccent N accent = accent ≡ 0
-IsValidAccent D accent = accent ≡ 0
+IsValidAccent _ accent = accent ≡ 0
 
 -- the codes of a set: the space is of set P, and the accents of set S are no signs
 abbrev pub IsCodeOf : SetId → ℕ → Type 0
 IsCodeOf P code = (0x20 ≤ code) × (code ≤ 0x7F)
 IsCodeOf S code = (0x21 ≤ code) × (code ≤ 0x7F) × ((code < 0x40) ⊎ (0x4F < code))
-IsCodeOf M code = (0x21 ≤ code) × (code ≤ 0x7F)
-IsCodeOf N code = (0x21 ≤ code) × (code ≤ 0x7F)
-IsCodeOf D code = (0x21 ≤ code) × (code ≤ 0x7F)
+IsCodeOf _ code = (0x21 ≤ code) × (code ≤ 0x7F)
 
 -- a code of its set, and an accent that its set takes
 pub record IsValidGlyph (g : Glyph) : Type 0 where

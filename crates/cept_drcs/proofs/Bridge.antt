@@ -156,12 +156,7 @@ pattern_first f u h = rw h refl
 
 pub pattern_other : (f : Form) (a : ℕ) (u : List ℕ) → (a == 0x30) ≡ false → is_pattern f (a ∷ u) ≡ false
 unfolding is_pattern
-pattern_other f a u h =
-    let e : is_opener a ≡ true → (plane_of a == 0) ≡ false = λ t. grind (arith, nat_tests) in
-    elim (cases_Bool (is_opener a)) [
-      | inl t ↦ rw (cut_opener a u t, e t) refl
-      | inr t ↦ rw (cut_other a u t) refl
-    ]
+pattern_other f a u h = rw h refl
 
 -- a pattern is what is taken byte by byte
 pub unit_loads : (f : Form) (a : ℕ) (u : List ℕ) → nat_lt 0 f.planes ≡ true

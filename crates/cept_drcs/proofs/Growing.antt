@@ -1,20 +1,28 @@
 -- Where a byte fits after a pattern, and where none does.
-use Rattle.std.proofs.Common.{◌≡◌, ◌↔◌, ℕ, ◌+◌, ◌-◌, ◌<◌, ◌≤◌, true, false, not, ◌&&◌, ◌||◌, List, [], ◌∷◌, ◌++◌}
+use Rattle.std.proofs.Common.{◌≡◌, ◌↔◌, ℕ, ◌+◌, ◌-◌, ◌<◌, ◌≤◌, Bool, true, false, not, ◌&&◌, ◌||◌, List, [], ◌∷◌, ◌++◌}
 use Rattle.std.proofs.Common.{inl, inr, length, ◌==◌, nat_lt, IsTrue, refl, sym, ap, ◌∙◌, arith}
 use Rattle.std.proofs.lemmas.Bool.{cases_Bool, and_parts, or_parts, ltb-true}
 use Rattle.std.proofs.lemmas.Bool.{both_ways, not-true, false_from_ne_true}
 use Rattle.std.proofs.lemmas.Bool.Decides.{nat_tests}
+use Rattle.std.proofs.lemmas.List.Folds.{list_any_at}
+use Rattle.std.proofs.lemmas.List.FromFn.{length-range_with_len, get_or-range_with_len}
+use Rattle.std.specs.List.{list_any, range_with_len}
 use Rattle.cept_codes.specs.declared.command.Form.{Form}
 use Rattle.cept_codes.specs.Command.{IsValidForm}
 use Rattle.cept_codes.specs.Look.{is_plane_count}
 use Rattle.cept_drcs.specs.Block.{blank, may_come, part_after_bytes}
-use Rattle.cept_drcs.specs.Cut.{Block, is_opener, plane_of}
-use Rattle.cept_drcs.specs.Unit.{is_pattern, block_grows, pattern_grows, IsLonger}
+use Rattle.cept_drcs.specs.Cut.{Block, is_opener, plane_of, cut}
+use Rattle.cept_drcs.specs.Unit.{is_pattern, pattern_grows, IsLonger}
 use Rattle.cept_drcs.specs.Loading.{Loading, fresh, takes, loading_after, load, loads, is_full, Leads}
 use Rattle.cept_drcs.proofs.Bridge.{stand, takes_opener, takes_other, unit_loads}
 use Rattle.cept_drcs.proofs.Bridge.{room_is}
 use Rattle.cept_drcs.proofs.Reading.{loads_more, some_plane, pattern_planes, pattern_loads, pattern_of_leads}
-use Rattle.cept_drcs.proofs.Reading.{Ends, ended}
+use Rattle.cept_drcs.proofs.Reading.{Ends, IsEnded, ended, no_pattern}
+
+-- a byte fits after this last block of a unit: it hasn't all its lines, or there is a further plane with an opener
+abbrev pub block_grows : Form → Block → Bool
+block_grows f b =
+    nat_lt (length (part_after_bytes f blank b.bytes).lines) f.h || (nat_lt b.plane 3 && nat_lt (b.plane + 1) f.planes)
 
 -- ---- a block that doesn't grow
 
@@ -91,19 +99,48 @@ more_is f a u c h =
     unit_loads f a (u ++ c ∷ []) (pattern_planes f a u h) ∙ loads_more (fresh f) (a ∷ u) c
     ∙ rw (pattern_loads f a u h) refl
 
+no_number : (p : ℕ → Bool) → ((n : ℕ) → p n ≡ false) → (ns : List ℕ) → list_any p ns ≡ false
+no_number p h [] = refl
+no_number p h (n ∷ ns) = rw (h n) (no_number p h ns)
+
+some_number : (p : ℕ → Bool) (n : ℕ) → n < 256 → p n ≡ true → list_any p (range_with_len 0 256) ≡ true
+some_number p n l h =
+    let e : 0 + n ≡ n = omega arith in
+    list_any_at p (range_with_len 0 256) n 0 (rw (length-range_with_len 0 256) l)
+    (ap p (get_or-range_with_len 0 256 n 0 l ∙ e) ∙ h)
+
+ended_grows : (f : Form) (a : ℕ) (u : List ℕ) → is_pattern f (a ∷ u) ≡ true
+    → (e : IsEnded f (a ∷ u) (load (fresh f) (a ∷ u))) → pattern_grows f (a ∷ u) ≡ block_grows f e.last
+unfolding pattern_grows
+ended_grows f a u h e =
+    let fits : ℕ → Bool = λ c. is_pattern f (a ∷ u ++ c ∷ []) in
+    elim (cases_Bool (block_grows f e.last)) [
+      | inl t ↦ let k = takes_one f _ e.last e.ends t in
+          some_number fits k.byte k.small (more_is f a u k.byte h ∙ k.taken) ∙ sym t
+      | inr t ↦ no_number fits (λ c. more_is f a u c h ∙ takes_none f _ e.last c e.ends t) (range_with_len 0 256) ∙ sym t
+    ]
+
+-- a pattern grows where its last block does
+pub grows_by_last : (f : Form) (u : List ℕ) (bs : List Block) (b : Block) → is_pattern f u ≡ true
+    → (cut u).blocks ≡ bs ++ b ∷ [] → pattern_grows f u ≡ block_grows f b
+grows_by_last f [] bs b h e = absurd (both_ways _ (no_pattern f) h)
+grows_by_last f (a ∷ u) bs b h e =
+    let k = ended f a u h in
+    ended_grows f a u h k ∙ ap (block_grows f) (k.is_last bs b e)
+
 -- after a pattern that doesn't grow no byte makes a longer one
 pub no_longer : (f : Form) (a : ℕ) (u : List ℕ) (c : ℕ) → is_pattern f (a ∷ u) ≡ true → pattern_grows f (a ∷ u) ≡ false
     → is_pattern f (a ∷ u ++ c ∷ []) ≡ false
 no_longer f a u c h g =
     let e = ended f a u h in
-    more_is f a u c h ∙ takes_none f _ e.last c e.ends (sym e.grows ∙ g)
+    more_is f a u c h ∙ takes_none f _ e.last c e.ends (sym (ended_grows f a u h e) ∙ g)
 
 -- after one that grows some byte does
 pub longer : (f : Form) (a : ℕ) (u : List ℕ) → is_pattern f (a ∷ u) ≡ true → pattern_grows f (a ∷ u) ≡ true
     → IsLonger f (a ∷ u)
 longer f a u h g =
     let e = ended f a u h in
-    let t = takes_one f _ e.last e.ends (sym e.grows ∙ g) in
+    let t = takes_one f _ e.last e.ends (sym (ended_grows f a u h e) ∙ g) in
     record { byte = t.byte; small = t.small; longer = more_is f a u t.byte h ∙ t.taken }
 
 pub four_planes : (n : ℕ) → IsTrue (is_plane_count n) → n ≤ 4
@@ -124,8 +161,9 @@ full_ends f l b v k =
 pub full_grows : (f : Form) (a : ℕ) (u : List ℕ) (l : Loading) → Leads f (a ∷ u) l
     → is_full l ≡ not (pattern_grows f (a ∷ u))
 full_grows f a u l k =
-    let e = ended f a u (pattern_of_leads f a u l k) in
-    ap is_full k.state ∙ full_ends f _ e.last k.form e.ends ∙ ap not (sym e.grows)
+    let h = pattern_of_leads f a u l k in
+    let e = ended f a u h in
+    ap is_full k.state ∙ full_ends f _ e.last k.form e.ends ∙ ap not (sym (ended_grows f a u h e))
 
 -- no byte is taken exactly in a full state
 full_none : (f : Form) (a : ℕ) (u : List ℕ) (l : Loading) → Leads f (a ∷ u) l → is_full l ≡ true

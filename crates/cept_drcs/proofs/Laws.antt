@@ -5,7 +5,7 @@
 pub use Rattle.cept_drcs.proofs.Reading.{starts, some_plane, no_pattern}
 -- ---- beginnings_of_patterns_are_patterns, patterns_grow_where_a_byte_fits
 pub use Rattle.cept_drcs.proofs.Reading.{beginning}
-pub use Rattle.cept_drcs.proofs.Growing.{longer, no_longer}
+pub use Rattle.cept_drcs.proofs.Growing.{longer, no_longer, grows_by_last}
 -- ---- patterns_have_at_most_100_bytes
 pub use Rattle.cept_drcs.proofs.Counting.{unit_length, hundred}
 -- ---- patterns_are_valid

@@ -10,7 +10,7 @@ use Rattle.cept_codes.specs.Command.{IsValidForm}
 use Rattle.cept_codes.specs.Look.{is_plane_count}
 use Rattle.cept_drcs.specs.Block.{BlockPart, blank, part_after_byte, part_after_bytes}
 use Rattle.cept_drcs.specs.Cut.{Block, is_opener, plane_of, cut}
-use Rattle.cept_drcs.specs.Unit.{is_pattern, are_blocks, last_block, block_grows, pattern_grows}
+use Rattle.cept_drcs.specs.Unit.{is_pattern, are_blocks}
 use Rattle.cept_drcs.specs.Loading.{Loading, fresh, takes, loading_after, load, loads, Leads}
 use Rattle.cept_drcs.proofs.BlockLemmas.{IsWithin, blank_within, draw_within, part_after_bytes-more}
 use Rattle.cept_drcs.proofs.Bridge.{stand, above_next, length-above_next, taken_opener}
@@ -71,7 +71,7 @@ pub pattern_loads : (f : Form) (a : ℕ) (u : List ℕ) → is_pattern f (a ∷ 
 pattern_loads f a u h = sym (unit_loads f a u (pattern_planes f a u h)) ∙ h
 
 pub no_pattern : (f : Form) → is_pattern f [] ≡ false
-unfolding is_pattern cut
+unfolding is_pattern
 no_pattern f = refl
 
 valid_starts : (f : Form) (a : ℕ) → nat_lt 0 f.planes ≡ true → is_pattern f (a ∷ []) ≡ (a == 0x30)
@@ -150,10 +150,19 @@ pub record Ends (f : Form) (l : Loading) (b : Block) : Type 0 where
 abbrev pub block : ℕ → List ℕ → Block
 block p u = record { plane = p; bytes = u }
 
+-- the last of blocks, this one where there are no more
+abbrev pub last_block : Block → List Block → Block
+last_block b [] = b
+last_block b (c ∷ bs) = last_block c bs
+
+last_append : (d : Block) (bs : List Block) (b : Block) → last_block d (bs ++ b ∷ []) ≡ b
+last_append d [] b = refl
+last_append d (c ∷ bs) b = last_append c bs b
+
 pub ends_behind : (f : Form) (p : ℕ) (up w u : List ℕ) → length up ≡ p * f.h → IsWithin f (part_after_bytes f blank w)
     → p < f.planes → loads (stand f p up (part_after_bytes f blank w)) u ≡ true
     → Ends f (load (stand f p up (part_after_bytes f blank w)) u) (last_block (block p (w ++ (cut u).front)) (cut u).blocks)
-unfolding load cut last_block part_after_bytes
+unfolding load cut part_after_bytes
 ends_behind f p up w [] e n l h =
     subst (λ (v : List ℕ). Ends f (stand f p up (part_after_bytes f blank w)) (block p v)) (sym (append-nil w)) (record {
       above = up;
@@ -189,18 +198,18 @@ ends_behind f p up w (a ∷ u) e n l h =
 pub record IsEnded (f : Form) (u : List ℕ) (l : Loading) : Type 0 where
   pub last : Block
   pub ends : Ends f l last
-  pub grows : pattern_grows f u ≡ block_grows f last
+  pub is_last : (bs : List Block) (b : Block) → (cut u).blocks ≡ bs ++ b ∷ [] → last ≡ b
 
 first_ended : (f : Form) (u : List ℕ) → is_pattern f (0x30 ∷ u) ≡ true
     → IsEnded f (0x30 ∷ u) (load (fresh f) (0x30 ∷ u))
-unfolding pattern_grows cut part_after_bytes load loading_after
+unfolding cut part_after_bytes load loading_after
 first_ended f u h =
     let some : 0 < f.planes = ltb-true 0 f.planes (pattern_planes f 0x30 u h) in
     let loaded : loads (first f) u ≡ true = sym (loads_first f 0x30 u) ∙ pattern_loads f 0x30 u h in
     record {
       last = last_block (block 0 (cut u).front) (cut u).blocks;
       ends = ends_behind f 0 [] [] u (sym (zero-mul f.h)) (blank_within f) some loaded;
-      grows = refl;
+      is_last = λ bs b e. ap (last_block (block 0 [])) e ∙ last_append (block 0 []) bs b;
     }
 
 pub ended : (f : Form) (a : ℕ) (u : List ℕ) → is_pattern f (a ∷ u) ≡ true

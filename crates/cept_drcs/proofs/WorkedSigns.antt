@@ -4,7 +4,7 @@ use Rattle.std.specs.List.{range_with_len}
 use Rattle.cept_codes.specs.declared.command.Form.{Form}
 use Rattle.cept_drcs.specs.Block.{adds, all_may_come, block_lines, part_after_bytes}
 use Rattle.cept_drcs.specs.Cut.{cut}
-use Rattle.cept_drcs.specs.Unit.{are_blocks, blocks_number, is_pattern, last_block, lines_from, pattern, pattern_grows}
+use Rattle.cept_drcs.specs.Unit.{are_blocks, blocks_number, is_pattern, lines_from, pattern, pattern_grows}
 use Rattle.cept_drcs.specs.Unit.{words}
 
 -- a form
@@ -188,7 +188,7 @@ growing : map (λ u. pattern_grows (form 6 5 2) u)
     ((0x30 ∷ []) ∷ (0x30 ∷ 0x24 ∷ []) ∷ (0x30 ∷ 0x25 ∷ []) ∷ (0x30 ∷ 0x25 ∷ 0x31 ∷ []) ∷ (0x30 ∷ 0x31 ∷ 0x24 ∷ [])
     ∷ (0x30 ∷ 0x31 ∷ 0x25 ∷ []) ∷ (0x30 ∷ 0x25 ∷ 0x31 ∷ 0x25 ∷ []) ∷ [])
     ≡ true ∷ true ∷ true ∷ true ∷ true ∷ false ∷ false ∷ []
-unfolding adds cut last_block part_after_bytes pattern_grows
+unfolding adds all_may_come are_blocks cut is_pattern part_after_bytes pattern_grows
 growing = refl
 
 -- ---- where pixels stand: that of plane p, line y and column x is bit number (p * h + y) * w + x

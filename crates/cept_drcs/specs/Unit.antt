@@ -1,11 +1,12 @@
 -- Pattern units, on the whole list of their bytes: 30 and a block, and then openers with a block each (this profile's
 -- own).
+use Rattle.std.specs.List.{list_any, range_with_len}
 use Rattle.std.specs.Prelude.{◌≡◌, ◌<◌, ◌++◌, if◌then◌else◌, slice_index}
-use Rattle.std.specs.Prelude.{ℕ, zero, suc, ◌+◌, ◌*◌, ◌/◌, ◌%◌, ◌^◌, Bool, true, false, ◌&&◌, ◌||◌, length, List, []}
+use Rattle.std.specs.Prelude.{ℕ, zero, suc, ◌+◌, ◌*◌, ◌/◌, ◌%◌, ◌^◌, Bool, true, false, ◌&&◌, List, []}
 use Rattle.std.specs.Prelude.{◌∷◌, ◌==◌, nat_lt, nat_le}
 use Rattle.cept_codes.specs.declared.command.Form.{Form}
 use Rattle.cept_codes.specs.declared.look.Pattern.{Pattern}
-use Rattle.cept_drcs.specs.Block.{blank, part_after_bytes, all_may_come, block_lines}
+use Rattle.cept_drcs.specs.Block.{blank, all_may_come, block_lines}
 use Rattle.cept_drcs.specs.Cut.{Block, cut}
 
 -- blocks of planes that ascend strictly, from this one on, and are planes of the form
@@ -14,37 +15,14 @@ are_blocks f p [] = true
 are_blocks f p (b ∷ bs) =
     nat_le p b.plane && (nat_lt b.plane f.planes && (all_may_come f blank b.bytes && are_blocks f (b.plane + 1) bs))
 
--- the first of them is of plane 0
-abbrev pub begins_first_plane : List Block → Bool
-begins_first_plane [] = false
-begins_first_plane (b ∷ bs) = b.plane == 0
-
--- no byte stands before the first opener
-abbrev pub is_bare : List ℕ → Bool
-is_bare [] = true
-is_bare (a ∷ u) = false
-
--- these bytes are a pattern unit
+-- these bytes are a pattern unit: the first opens plane 0
 unfoldable pub is_pattern : Form → List ℕ → Bool
-is_pattern f u = let c = cut u in is_bare c.front && (begins_first_plane c.blocks && are_blocks f 0 c.blocks)
+is_pattern f [] = false
+is_pattern f (a ∷ u) = a == 0x30 && are_blocks f 0 (cut (a ∷ u)).blocks
 
--- the last of blocks, this one where there are no more
-unfoldable pub last_block : Block → List Block → Block
-last_block b [] = b
-last_block b (c ∷ bs) = last_block c bs
-
--- a byte fits after this last block of a unit: it hasn't all its lines, or there is a further plane with an opener
-abbrev pub block_grows : Form → Block → Bool
-block_grows f b =
-    nat_lt (length (part_after_bytes f blank b.bytes).lines) f.h || (nat_lt b.plane 3 && nat_lt (b.plane + 1) f.planes)
-
--- after a unit
-abbrev pub blocks_grow : Form → List Block → Bool
-blocks_grow f [] = false
-blocks_grow f (b ∷ bs) = block_grows f (last_block b bs)
-
+-- a byte fits after a unit
 unfoldable pub pattern_grows : Form → List ℕ → Bool
-pattern_grows f u = blocks_grow f (cut u).blocks
+pattern_grows f u = list_any (λ a. is_pattern f (u ++ a ∷ [])) (range_with_len 0 256)
 
 -- a byte makes a longer unit of these bytes
 pub record IsLonger (f : Form) (u : List ℕ) : Type 0 where

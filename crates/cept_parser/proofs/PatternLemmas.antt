@@ -1,5 +1,5 @@
 -- Bytes of a pattern, as the grammar of the bytes sees them.
-use Rattle.std.proofs.Common.{◌≡◌, ℕ, ◌<◌, ◌≤◌, Bool, true, false, ◌&&◌, eqb, ltb, List, [], ◌∷◌, ◌++◌}
+use Rattle.std.proofs.Common.{◌≡◌, ℕ, ◌<◌, ◌≤◌, Bool, true, false, ◌&&◌, eqb, leb, ltb, List, [], ◌∷◌, ◌++◌}
 use Rattle.std.proofs.Common.{length, refl, sym, ap, ◌∙◌, subst, arith, rules, inl, inr, get_or}
 use Rattle.std.proofs.lemmas.Bool.{and_parts, both_ways, eqb-true, ltb-true, cases_Bool}
 use Rattle.cept_codes.specs.declared.command.Form.{Form}
@@ -8,8 +8,8 @@ use Rattle.cept_codes.specs.declared.item.Said.{Said}
 use Rattle.cept_codes.specs.Look.{is_pattern_size}
 use Rattle.cept_drcs.specs.Cut.{cut}
 use Rattle.cept_drcs.specs.Block.{part_after_bytes}
-use Rattle.cept_drcs.specs.Unit.{last_block, pattern_grows as unit_grows}
-use Rattle.cept_drcs.proofs.Laws.{starts}
+use Rattle.cept_drcs.specs.Unit.{pattern_grows as unit_grows}
+use Rattle.cept_drcs.proofs.Laws.{starts, grows_by_last}
 use Rattle.cept_parser.specs.declared.context.Mode.{Mode}
 use Rattle.cept_parser.specs.declared.context.Mode.TheVariants.{Text, TableRun, DclutRun, DrcsRun, Skip}
 use Rattle.cept_parser.specs.declared.context.Context.{Context}
@@ -19,8 +19,7 @@ use Rattle.cept_parser.specs.declared.fit.Fit.TheVariants.{Misfit, Open, Whole, 
 use Rattle.cept_parser.specs.Bytes.{is_longer, Standing}
 use Rattle.cept_parser.specs.Fit.{closes, Answer, answer}
 use Rattle.cept_parser.specs.inside.Fit.{word}
-use Rattle.cept_parser.specs.Runs.{has_six_bits, starts_pattern, with_pattern}
-use Rattle.cept_parser.specs.Runs.{pattern_unit, table_entry, run_unit}
+use Rattle.cept_parser.specs.Runs.{starts_pattern, with_pattern, table_entry, run_unit}
 use Rattle.cept_parser.specs.Units.{us_unit}
 use Rattle.cept_parser.specs.Grammar.{repetition, csi_unit, standing}
 use Rattle.cept_parser.specs.Waits.{begins_in, in_pattern}
@@ -34,8 +33,10 @@ some_line : (w h : ℕ) → is_pattern_size w h ≡ true → ltb 0 h ≡ true
 some_line w h s = search rules
 
 first_grows : (f : Form) → IsValidForm f → unit_grows f (0x30 ∷ []) ≡ true
-unfolding unit_grows cut last_block part_after_bytes
-first_grows f v = rw (some_line f.w f.h v.size) refl
+unfolding cut part_after_bytes
+first_grows f v =
+    grows_by_last f (0x30 ∷ []) [] (record { plane = 0; bytes = [] }) (starts f 0x30 v) refl
+    ∙ rw (some_line f.w f.h v.size) refl
 
 -- and more bytes fit after it
 pub start_grows : (x : Context) (c a : ℕ) → IsValidForm x.form → starts_pattern x c a ≡ true
@@ -67,7 +68,6 @@ pub record IsPatternRun (x : Context) (u : List ℕ) : Type 0 where
 
 run_is : (m : Mode) (x : Context) (a : ℕ) (u : List ℕ) (c : ℕ) → m ≡ DrcsRun c → starts_pattern x c a ≡ true
     → run_unit m x a u ≡ with_pattern x c (a ∷ u)
-unfolding pattern_unit
 run_is m x a u c e s = rw (e, s) refl
 
 plain_stands : (x : Context) (a : ℕ) (u : List ℕ) → is_plain a ≡ true → standing x (a ∷ u) ≡ run_unit x.mode x a u
@@ -95,11 +95,11 @@ abbrev Ends : Standing → Type 0
 Ends s = is_longer s.fit ≡ false
 
 run_ends : (m : Mode) (x : Context) (a : ℕ) → begins_in m x a ≡ false → Ends (run_unit m x a [])
-unfolding table_entry pattern_unit
+unfolding table_entry
 run_ends Text x a h = refl
 run_ends Skip x a h = refl
-run_ends (TableRun i) x a h = each_test Ends (ltb i 32 && has_six_bits a) (λ _. refl) (λ _. refl)
-run_ends (DclutRun i) x a h = refl
+run_ends (TableRun i) x a h = each_test Ends (ltb i 32 && leb 0x40 a) (λ _. refl) (λ _. refl)
+run_ends (DclutRun i) x a h = each_test Ends (ltb i 4 && leb 0x40 a) (λ _. refl) (λ _. refl)
 run_ends (DrcsRun c) x a h = each_test Ends (starts_pattern x c a) (λ s. absurd (both_ways _ h s)) (λ _. refl)
 
 -- a byte alone that is no pattern doesn't grow

@@ -3,9 +3,13 @@ use Rattle.std.proofs.Common.{◌≡◌, ℕ, zero, suc, ◌+◌, ◌≤◌, Lis
 use Rattle.std.proofs.Common.{sym, ap, ◌∙◌, subst, arith, ◌⊎◌, inl, inr}
 use Rattle.std.proofs.lemmas.List.{length-drop, drop-append-le}
 use Rattle.cept_parser.specs.declared.context.Context.{Context}
-use Rattle.cept_parser.specs.Items.{Front, front, Reading, item_of, reading_with_items, waiting_reading, reading_by}
+use Rattle.cept_parser.specs.Items.{Front, front, Reading, reading_with_items, waiting_reading, reading_by}
 use Rattle.cept_parser.specs.Items.{reading_within, reading_at}
 use Rattle.cept_parser.proofs.LongestBeginningLemmas.{front_append_more, front_none, front_within}
+
+-- a reading after this first item
+abbrev pub after_first : ℕ → Front → Reading → Reading
+after_first at f r = reading_with_items (record { at = at; len = f.size; what = f.said } ∷ []) r
 
 -- bytes that wait are pending
 pub read_none : (n : ℕ) (x : Context) (at : ℕ) (b : List ℕ) → front x b ≡ None
@@ -16,7 +20,7 @@ read_none (suc n) x at b e = rw e refl
 
 read_some : (n : ℕ) (x : Context) (at : ℕ) (b : List ℕ) (f : Front) → front x b ≡ Some f
     → reading_within (suc n) x at b
-    ≡ reading_with_items (item_of at f ∷ []) (reading_within n f.next (at + f.size) (drop f.size b))
+    ≡ after_first at f (reading_within n f.next (at + f.size) (drop f.size b))
 unfolding reading_within reading_by
 read_some n x at b f e = rw e refl
 
@@ -46,17 +50,17 @@ read_enough (suc n) (suc m) x at b k l =
     read_none (suc n) x at b e ∙ sym (read_none (suc m) x at b e) in
     let some : (f : Front) → front x b ≡ Some f → reading_within (suc n) x at b ≡ reading_within (suc m) x at b = λ f e.
     read_some n x at b f e
-    ∙ ap (reading_with_items (item_of at f ∷ []))
+    ∙ ap (after_first at f)
     (read_enough n m f.next (at + f.size) (drop f.size b) (rest_within x b f n e k) (rest_within x b f m e l))
     ∙ sym (read_some m x at b f e) in
     elim (cases_front (front x b)) [ inl e ↦ none e | inr p ↦ some p.0 p.1 ]
 
 -- the first item, and then the reading of the rest
 pub read_step : (x : Context) (at : ℕ) (b : List ℕ) (f : Front) → front x b ≡ Some f
-    → reading_at x at b ≡ reading_with_items (item_of at f ∷ []) (reading_at f.next (at + f.size) (drop f.size b))
+    → reading_at x at b ≡ after_first at f (reading_at f.next (at + f.size) (drop f.size b))
 read_step x at b f e =
     read_enough (length b) (suc (length b)) x at b (omega arith) (omega arith) ∙ read_some (length b) x at b f e
-    ∙ ap (reading_with_items (item_of at f ∷ []))
+    ∙ ap (after_first at f)
     (read_enough (length b) (length (drop f.size b)) f.next (at + f.size) (drop f.size b) (omega (
       arith,
       length-drop f.size b,
@@ -78,10 +82,10 @@ goes_on (suc n) x at b s l =
     let later : GoesOn f.next (at + f.size) (drop f.size b) s (reading_at f.next (at + f.size) (drop f.size b)) =
     goes_on n f.next (at + f.size) (drop f.size b) s (rest_within x b f n e l) in
     let whole : reading_at x at (b ++ s)
-    ≡ reading_with_items (item_of at f ∷ []) (reading_at f.next (at + f.size) (drop f.size b ++ s)) =
+    ≡ after_first at f (reading_at f.next (at + f.size) (drop f.size b ++ s)) =
     read_step x at (b ++ s) f (front_append_more x b s f e)
-    ∙ ap (λ (u : List ℕ). reading_with_items (item_of at f ∷ []) (reading_at f.next (at + f.size) u)) tail in
-    subst (GoesOn x at b s) (sym (read_step x at b f e)) (whole ∙ ap (reading_with_items (item_of at f ∷ [])) later) in
+    ∙ ap (λ (u : List ℕ). after_first at f (reading_at f.next (at + f.size) u)) tail in
+    subst (GoesOn x at b s) (sym (read_step x at b f e)) (whole ∙ ap (after_first at f) later) in
     elim (cases_front (front x b)) [ inl e ↦ goes_on_none x at b s e | inr p ↦ some p.0 p.1 ]
 
 pub read_append : (x : Context) (at : ℕ) (b s : List ℕ) → let r = reading_at x at b in

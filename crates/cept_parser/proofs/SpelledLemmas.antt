@@ -23,15 +23,13 @@ use Rattle.cept_parser.specs.declared.context.Mode.TheVariants.{Text, TableRun, 
 use Rattle.cept_parser.specs.declared.fit.Fit.TheVariants.{Whole, Longer}
 use Rattle.cept_parser.specs.Bytes.{is_plain, is_digit, two_digits}
 use Rattle.cept_parser.specs.Controls.{one_byte}
-use Rattle.cept_parser.specs.Csi.{csi, csi_1, csi_2, area, area_to, area_from}
-use Rattle.cept_parser.specs.Escape.{escape, escape_2, escape_3, designation, designation_of_c1, full_screen}
-use Rattle.cept_parser.specs.Escape.{full_row, designation_of_drcs}
+use Rattle.cept_parser.specs.Csi.{csi, csi_2, area}
+use Rattle.cept_parser.specs.Escape.{escape, escape_2, escape_3}
 use Rattle.cept_parser.specs.Grammar.{standing, csi_unit, repetition}
-use Rattle.cept_parser.specs.Runs.{bit, colour, table_entry, dclut_value, has_six_bits}
+use Rattle.cept_parser.specs.Runs.{bit, colour, table_entry}
 use Rattle.cept_parser.specs.Spelling.{spelling, context_after, may_grow, tens_byte, ones_byte, colour_byte}
-use Rattle.cept_parser.specs.Units.{us_unit, us_position, drcs_unit, drcs_header, drcs_width, drcs_height}
-use Rattle.cept_parser.specs.Units.{drcs_planes, colour_unit, colour_header, colour_start, colours_from, last_place}
-use Rattle.cept_parser.specs.Units.{format, service_unit, service}
+use Rattle.cept_parser.specs.Units.{us_unit, us_position, drcs_unit, drcs_header, drcs_form, colour_unit}
+use Rattle.cept_parser.specs.Units.{colour_header, colour_start, last_place, format, service_unit}
 
 -- the spelling of a command is a whole unit that says it, and may grow or not as said
 abbrev pub Stands : Context → Command → Type 0
@@ -53,11 +51,11 @@ unfolding csi_unit csi csi_2 spelling context_after
 flash_spelled x k h = grind (arith, nat_tests)
 
 pub screen_spelled : (x : Context) (n : ℕ) → IsScreenC1 n → Stands x (command.FullScreen n)
-unfolding escape escape_3 full_screen spelling context_after
+unfolding escape escape_3 spelling context_after
 screen_spelled x n h = let l = h.0.0 in let m = h.0.1 in let o = h.1 in grind (arith, nat_tests)
 
 pub row_spelled : (x : Context) (n : ℕ) → IsC1 n → Stands x (command.FullRow n)
-unfolding escape escape_3 full_row spelling context_after
+unfolding escape escape_3 spelling context_after
 row_spelled x n h = let l = h.0 in let m = h.1 in grind (arith, nat_tests)
 
 pub position_spelled : (x : Context) (r c : ℕ) → OnScreen r c → Stands x (command.Position r c)
@@ -86,7 +84,7 @@ unfolding one_byte spelling context_after
 lock_spelled x g h = grind (arith, nat_tests)
 
 pub designate_spelled : (x : Context) (g : ℕ) (set : SetId) → g ≤ 3 → Stands x (command.Designate g set)
-unfolding escape escape_2 escape_3 designation designation_of_drcs spelling context_after
+unfolding escape escape_2 escape_3 spelling context_after
 designate_spelled x g P h = grind (arith, nat_tests)
 designate_spelled x g S h = grind (arith, nat_tests)
 designate_spelled x g M h = grind (arith, nat_tests)
@@ -94,7 +92,7 @@ designate_spelled x g N h = grind (arith, nat_tests)
 designate_spelled x g D h = grind (arith, nat_tests)
 
 pub area_spelled : (x : Context) (a b : ℕ) → IsArea a b → Stands x (command.AreaCreate a b)
-unfolding csi_unit csi area area_to area_from spelling context_after
+unfolding csi_unit csi area spelling context_after
 area_spelled x a b h = let l = h.0 in let m = h.1 in let n = h.2 in grind (arith, nat_tests)
 
 pub graphic_spelled : (x : Context) (b : ℕ) → x.mode ≡ Text → 0x20 ≤ b → b ≤ 0x7F → Stands x (command.Graphic b)
@@ -112,7 +110,7 @@ implicit_spelled x true = refl
 implicit_spelled x false = refl
 
 pub stop_spelled : (x : Context) → Stands x command.StopConceal
-unfolding csi_unit csi csi_1 spelling context_after
+unfolding csi_unit csi spelling context_after
 stop_spelled x = refl
 
 -- ---- the format and defaults
@@ -126,18 +124,18 @@ format_spelled x rows false (inl e) = subst (λ (n : ℕ). Stands x (command.For
 format_spelled x rows false (inr e) = subst (λ (n : ℕ). Stands x (command.Format n false)) (sym e) refl
 
 pub defaults_spelled : (x : Context) (set : C1Set) → Stands x (command.FullDefaults set)
-unfolding us_unit service_unit service spelling context_after
+unfolding us_unit service_unit spelling context_after
 defaults_spelled x c1_set.Serial = refl
 defaults_spelled x c1_set.Parallel = refl
 
 pub revision_spelled : (x : Context) (revision : ℕ) → (revision ≡ 1) ⊎ (revision ≡ 2)
     → Stands x (command.Revision revision)
-unfolding us_unit service_unit service spelling context_after
+unfolding us_unit service_unit spelling context_after
 revision_spelled x revision (inl e) = subst (λ (n : ℕ). Stands x (command.Revision n)) (sym e) refl
 revision_spelled x revision (inr e) = subst (λ (n : ℕ). Stands x (command.Revision n)) (sym e) refl
 
 pub c1_set_spelled : (x : Context) (set : C1Set) → Stands x (command.DesignateC1 set)
-unfolding escape escape_2 designation_of_c1 spelling context_after
+unfolding escape escape_2 spelling context_after
 c1_set_spelled x c1_set.Serial = refl
 c1_set_spelled x c1_set.Parallel = refl
 
@@ -153,7 +151,7 @@ last_small ColourTable i h = h
 last_small LookUpTable i h = omega arith
 
 pub start_spelled : (x : Context) (i : ℕ) → i ≤ last_place x.kind → Stands x (command.ColourStart i)
-unfolding us_unit colour_unit colour_start colours_from spelling context_after
+unfolding us_unit colour_unit colour_start spelling context_after
 start_spelled x i h =
     let small : i ≤ 31 = last_small x.kind i h in
     let t : is_plain (tens_byte i) ≡ true = grind (arith, nat_tests) in
@@ -226,16 +224,16 @@ unfolding table_entry spelling context_after
 entry_spelled x i c e l v =
     let p = within_plain (colour_byte 2 c) (colour_within 2 c) in
     let q = within_plain (colour_byte 0 c) (colour_within 0 c) in
-    let r : has_six_bits (colour_byte 2 c) ≡ true = le-leb 0x40 (colour_byte 2 c) (colour_within 2 c).0 in
-    let s : has_six_bits (colour_byte 0 c) ≡ true = le-leb 0x40 (colour_byte 0 c) (colour_within 0 c).0 in
+    let r : leb 0x40 (colour_byte 2 c) ≡ true = le-leb 0x40 (colour_byte 2 c) (colour_within 2 c).0 in
+    let s : leb 0x40 (colour_byte 0 c) ≡ true = le-leb 0x40 (colour_byte 0 c) (colour_within 0 c).0 in
     let n : ltb i 32 ≡ true = grind (arith, nat_tests) in
     rw (p, e, n, r, q, s, colour_back c v) refl
 
 pub dclut_spelled : (x : Context) (i v : ℕ) → x.mode ≡ DclutRun i → i ≤ 3 → v ≤ 31 → Stands x (command.Dclut i v)
-unfolding dclut_value spelling context_after
+unfolding spelling context_after
 dclut_spelled x i v e l m =
     let p : is_plain (0x40 + v) ≡ true = grind (arith, nat_tests) in
-    let r : has_six_bits (0x40 + v) ≡ true = grind (arith, nat_tests) in
+    let r : leb 0x40 (0x40 + v) ≡ true = grind (arith, nat_tests) in
     let n : ltb i 4 ≡ true = grind (arith, nat_tests) in
     let b : (0x40 + v) % 32 ≡ v = omega arith in
     rw (p, e, n, r, b) refl
@@ -300,7 +298,7 @@ abbrev form_with : ℕ → ℕ → ℕ → Form
 form_with w h n = record { w = w; h = h; planes = n }
 
 pub patterns_spelled : (x : Context) (f : Form) → IsValidForm f → Stands x (command.DrcsHeader false f)
-unfolding us_unit drcs_unit drcs_header drcs_width drcs_height drcs_planes spelling context_after
+unfolding us_unit drcs_unit drcs_header drcs_form spelling context_after
 patterns_spelled x f v =
     let R : ℕ → ℕ → ℕ → Type 0 = λ w h n. Stands x (command.DrcsHeader false (form_with w h n)) in
     size_cases (λ w h. R w h f.planes) f.w f.h v.size (plane_cases (R 12 12) f.planes v.planes refl refl refl)

@@ -8,7 +8,7 @@ use Rattle.cept_parser.specs.declared.context.Context.{Context}
 use Rattle.cept_parser.specs.declared.context.Outcome.{Outcome}
 use Rattle.cept_parser.specs.declared.fit.Fit.TheVariants.{Misfit, Open, Whole, Longer}
 use Rattle.cept_parser.specs.Bytes.{is_between, is_plain, contains, is_fit, is_whole, Standing, Table, end, complete}
-use Rattle.cept_parser.specs.Bytes.{then_plain, one_plain, with_sequence, optional, with_options}
+use Rattle.cept_parser.specs.Bytes.{then_plain, with_sequence, optional, with_options}
 use Rattle.cept_parser.specs.Items.{is_refusal}
 
 -- they fit, or don't
@@ -140,8 +140,8 @@ pub plain_table : (n : ℕ) (x : Context) (k : ℕ → Table) → ((a : ℕ) →
     → IsTable (suc n) (then_plain x k)
 plain_table n x k h = begun_table n (then_plain x k) refl (λ a p. rw p (h a p)) (λ a u p. rw p refl)
 
-pub one_table : (n : ℕ) (x : Context) (k : ℕ → Outcome) → IsTable (suc n) (one_plain x k)
-one_table n x k = begun_table n (one_plain x k) refl (λ a p. rw p (complete_table n (k a))) (λ a u p. rw p refl)
+pub one_table : (n : ℕ) (x : Context) (k : ℕ → Outcome) → IsTable (suc n) (then_plain x (λ c. complete (k c)))
+one_table n x k = plain_table n x (λ c. complete (k c)) (λ a p. complete_table n (k a))
 
 -- a final byte is a plain one
 final_plain : (final a : ℕ) → 0x20 ≤ final → is_plain a ≡ false → is_between final 0x7F a ≡ false

@@ -1,5 +1,5 @@
 -- The laws of the tables of units: after US, after ESC, and in a run.
-use Rattle.std.proofs.Common.{◌≡◌, ℕ, suc, ◌≤◌, Bool, true, false, ◌&&◌, eqb, ltb, List, [], ◌∷◌, ◌++◌, length}
+use Rattle.std.proofs.Common.{◌≡◌, ℕ, suc, ◌≤◌, Bool, true, false, ◌&&◌, eqb, leb, ltb, List, [], ◌∷◌, ◌++◌, length}
 use Rattle.std.proofs.Common.{refl, cond, ◌∙◌, ◌⊎◌, inl, inr, arith}
 use Rattle.std.proofs.lemmas.Bool.{and_parts, cases_Bool}
 use Rattle.std.proofs.lemmas.Bool.Decides.{nat_tests}
@@ -20,7 +20,7 @@ use Rattle.cept_parser.specs.Bytes.{is_between, is_plain, is_digit, is_fit, is_w
 use Rattle.cept_parser.specs.Bytes.{complete}
 use Rattle.cept_parser.specs.Units.{drcs_parts, drcs_header, drcs_unit, colour_parts, colour_header, colour_start}
 use Rattle.cept_parser.specs.Units.{colour_unit, format_parts, format, service_break, service_unit, us_position, us_unit}
-use Rattle.cept_parser.specs.Runs.{has_six_bits, table_entry, run_unit, pattern_unit, with_pattern, starts_pattern}
+use Rattle.cept_parser.specs.Runs.{table_entry, run_unit, with_pattern, starts_pattern}
 use Rattle.cept_parser.specs.Grammar.{csi_unit, after_escape, repetition, standing}
 use Rattle.cept_parser.specs.Escape.{escape}
 use Rattle.cept_parser.proofs.ChoiceLemmas.{each_test, each_table}
@@ -47,8 +47,14 @@ colour_table x =
 service_table : (x : Context) → IsTable 5 (service_unit x)
 unfolding service_unit service_break
 service_table x =
-    plain_table 4 x _
-    (λ a _. each_table (IsTable 4) (eqb a 0x40) (λ _. one_table 3 x _) (λ _. complete_table 4 _))
+    plain_table 4 x _ (λ a _. each_table (IsTable 4) (eqb a 0x40) (λ _. one_table 3 x _)
+    (λ _. each_table (IsTable 4) (eqb a 0x41) (λ _. complete_table 4 _)
+    (λ _. each_table (IsTable 4) (eqb a 0x42) (λ _. complete_table 4 _)
+    (λ _. each_table (IsTable 4) (eqb a 0x43) (λ _. complete_table 4 _)
+    (λ _. each_table (IsTable 4) (eqb a 0x44) (λ _. complete_table 4 _)
+    (λ _. each_table (IsTable 4) (eqb a 0x45) (λ _. complete_table 4 _)
+    (λ _. each_table (IsTable 4) (eqb a 0x46) (λ _. complete_table 4 _)
+    (λ _. each_table (IsTable 4) (eqb a 0x4F) (λ _. complete_table 4 _) (λ _. complete_table 4 _)))))))))
 
 us_table : (x : Context) → IsTable 6 (us_unit x)
 unfolding us_unit format us_position
@@ -210,13 +216,14 @@ complete_first : (x : Context) (o : Outcome) → IsFirst x (complete o)
 complete_first x o = by_table x 0 (complete o) (omega arith) (complete_table 0 o)
 
 run_first : (m : Mode) (x : Context) (a : ℕ) → IsFirst x (run_unit m x a)
-unfolding pattern_unit table_entry
+unfolding table_entry
 run_first Text x a = complete_first x _
 run_first Skip x a = complete_first x _
 run_first (TableRun i) x a =
-    each_table (IsFirst x) (ltb i 32 && has_six_bits a) (λ _. by_table x 1 _ (omega arith) (one_table 0 x _))
+    each_table (IsFirst x) (ltb i 32 && leb 0x40 a) (λ _. by_table x 1 _ (omega arith) (one_table 0 x _))
     (λ _. complete_first x _)
-run_first (DclutRun i) x a = complete_first x _
+run_first (DclutRun i) x a =
+    each_table (IsFirst x) (ltb i 4 && leb 0x40 a) (λ _. complete_first x _) (λ _. complete_first x _)
 run_first (DrcsRun d) x a =
     each_table (IsFirst x) (starts_pattern x d a) (λ s. pattern_first x d a (and_parts _ _ s).1) (λ _. complete_first x _)
 

@@ -1,10 +1,10 @@
 -- Every whole unit says something valid and leads to a valid context, and what fits has few bytes.
-use Rattle.std.proofs.Common.{◌≡◌, ℕ, ◌+◌, ◌-◌, ◌<◌, ◌≤◌, Bool, true, false, not, ◌&&◌, ◌||◌, cond, eqb, ltb, leb, List}
+use Rattle.std.proofs.Common.{◌≡◌, ℕ, ◌+◌, ◌-◌, ◌<◌, ◌≤◌, Bool, true, false, not, ◌&&◌, cond, eqb, ltb, leb, List}
 use Rattle.std.proofs.Common.{[], ◌∷◌, length, Some, refl, subst, arith, ◌⊎◌, inl, inr}
-use Rattle.std.proofs.lemmas.Bool.{and_parts, cases_lt, not-true, not-false, leb-true, ltb-true}
+use Rattle.std.proofs.lemmas.Bool.{and_parts, cases_lt, not-false, leb-true, ltb-true}
 use Rattle.std.proofs.lemmas.Bool.Decides.{nat_tests}
 use Rattle.cept_codes.specs.Command.{IsValidSaid, IsValidForm, IsGraphic, IsC1, IsScreenC1, IsArea}
-use Rattle.cept_codes.specs.Look.{IsValidRgb, is_pattern_size, is_plane_count}
+use Rattle.cept_codes.specs.Look.{IsValidRgb, is_plane_count}
 use Rattle.cept_codes.specs.Place.{OnScreen}
 use Rattle.cept_codes.specs.declared.item.Said.{Said}
 use Rattle.cept_drcs.proofs.Laws.{unit_valid as pattern_valid}
@@ -16,18 +16,14 @@ use Rattle.cept_parser.specs.declared.context.Context.{Context}
 use Rattle.cept_parser.specs.declared.context.Outcome.{Outcome}
 use Rattle.cept_parser.specs.Context.{with_mode, start_context}
 use Rattle.cept_parser.specs.Bytes.{is_between, is_plain, is_digit, two_digits, is_row, contains}
-use Rattle.cept_parser.specs.Bytes.{outcome, is_whole, Standing, Table, complete, one_plain, then_plain}
+use Rattle.cept_parser.specs.Bytes.{outcome, is_whole, Standing, Table, complete, then_plain}
 use Rattle.cept_parser.specs.Controls.{one_byte}
-use Rattle.cept_parser.specs.Escape.{is_c1_final, escape_1, designation, designation_of_c1, escape_2, full_screen}
-use Rattle.cept_parser.specs.Escape.{full_row}
-use Rattle.cept_parser.specs.Escape.{designation_of_drcs, escape_3, escape}
-use Rattle.cept_parser.specs.Csi.{csi_1, csi_2, area, is_area_final, area_to, area_from, csi}
-use Rattle.cept_parser.specs.Units.{us_position, drcs_width, drcs_height, drcs_planes, drcs_form}
-use Rattle.cept_parser.specs.Units.{drcs_header, drcs_unit, colour_header, last_place, run_from}
-use Rattle.cept_parser.specs.Units.{colours_from, colour_start, colour_unit, format, service_break}
-use Rattle.cept_parser.specs.Units.{service, service_unit, us_unit}
-use Rattle.cept_parser.specs.Runs.{misplacement, has_six_bits, bit, colour_part, colour, table_entry, dclut_value}
-use Rattle.cept_parser.specs.Runs.{run_unit, pattern_unit, starts_pattern}
+use Rattle.cept_parser.specs.Escape.{is_c1_final, escape_1, escape_2, escape_3, escape}
+use Rattle.cept_parser.specs.Csi.{csi_2, area, csi}
+use Rattle.cept_parser.specs.Units.{us_position, drcs_form, drcs_header, drcs_unit, colour_header, last_place}
+use Rattle.cept_parser.specs.Units.{run_from, colour_start, colour_unit, format, service_break, service_unit, us_unit}
+use Rattle.cept_parser.specs.Runs.{misplacement, bit, colour_part, colour, table_entry, run_unit}
+use Rattle.cept_parser.specs.Runs.{starts_pattern}
 use Rattle.cept_parser.specs.Grammar.{repetition, csi_unit, after_escape, standing, unit, fits}
 use Rattle.cept_parser.specs.Valid.{IsValidContext, IsValidMode, AreBytes}
 use Rattle.cept_parser.proofs.ChoiceLemmas.{each_test, each_table}
@@ -57,19 +53,16 @@ said_valid x m s v n h = record { said = h; next = record { mode = n; form = v.f
 complete_valid : (o : Outcome) → IsValidOutcome o → Valid (complete o)
 complete_valid o h u w = h
 
--- what a plain byte decides is valid for every plain byte
-one_valid : (x : Context) (k : ℕ → Outcome) → ((c : ℕ) → is_plain c ≡ true → IsValidOutcome (k c))
-    → Valid (one_plain x k)
-one_valid x k h [] w = absurd cc
-one_valid x k h (c ∷ u) w =
-    each_test (λ (s : Standing). is_whole s.fit ≡ true → IsValidOutcome s.outcome) (is_plain c) (λ p _. h c p)
-    (λ _ v. absurd cc) w
-
 plain_valid : (x : Context) (k : ℕ → Table) → ((c : ℕ) → is_plain c ≡ true → Valid (k c)) → Valid (then_plain x k)
 plain_valid x k h [] w = absurd cc
 plain_valid x k h (c ∷ u) w =
     each_test (λ (s : Standing). is_whole s.fit ≡ true → IsValidOutcome s.outcome) (is_plain c) (λ p. h c p u)
     (λ _ v. absurd cc) w
+
+-- what a plain byte decides is valid for every plain byte
+one_valid : (x : Context) (k : ℕ → Outcome) → ((c : ℕ) → is_plain c ≡ true → IsValidOutcome (k c))
+    → Valid (then_plain x (λ c. complete (k c)))
+one_valid x k h = plain_valid x (λ c. complete (k c)) (λ c p. complete_valid (k c) (h c p))
 
 abbrev Fine : Said → Type 0
 Fine s = IsValidSaid s
@@ -115,10 +108,10 @@ control_valid a b c =
 c1_final : (f : ℕ) → is_c1_final f ≡ true → IsC1 (f - 0x40)
 c1_final f h = (grind (arith, nat_tests), grind (arith, nat_tests))
 
-screen_above : (f : ℕ) → not (is_between 0x4C 0x4F f) ≡ true → 12 ≤ f - 0x40 → 15 < f - 0x40
-screen_above f k l = let n : is_between 0x4C 0x4F f ≡ false = not-true _ k in grind (arith, nat_tests)
+screen_above : (f : ℕ) → is_between 0x4C 0x4F f ≡ false → 12 ≤ f - 0x40 → 15 < f - 0x40
+screen_above f k l = grind (arith, nat_tests)
 
-screen_final : (f : ℕ) → is_c1_final f ≡ true → not (is_between 0x4C 0x4F f) ≡ true → IsScreenC1 (f - 0x40)
+screen_final : (f : ℕ) → is_c1_final f ≡ true → is_between 0x4C 0x4F f ≡ false → IsScreenC1 (f - 0x40)
 screen_final f h k =
     let above : 12 ≤ f - 0x40 → 15 < f - 0x40 = λ l. screen_above f k l in
     (c1_final f h, elim (cases_lt (f - 0x40) 12) [ inl l ↦ inl l | inr l ↦ inr (above l) ])
@@ -133,34 +126,33 @@ escape_1_valid f =
     each_test Fine (eqb f 0x7D) (λ _. omega arith) (λ _.
     each_test Fine (eqb f 0x7E) (λ _. omega arith) (λ _. tt))))))
 
-designate_valid : (g f : ℕ) → g ≤ 3 → IsValidSaid (designation g f)
-unfolding designation
-designate_valid g f l =
-    each_test Fine (eqb f 0x40) (λ _. l) (λ _. each_test Fine (eqb f 0x62) (λ _. l)
-    (λ _. each_test Fine (eqb f 0x63) (λ _. l) (λ _. each_test Fine (eqb f 0x64) (λ _. l) (λ _. tt))))
-
-designate_c1_valid : (f : ℕ) → IsValidSaid (designation_of_c1 f)
-unfolding designation_of_c1
-designate_c1_valid f = each_test Fine (eqb f 0x40) (λ _. tt) (λ _. each_test Fine (eqb f 0x41) (λ _. tt) (λ _. tt))
-
 set_number : (i : ℕ) → is_between 0x28 0x2B i ≡ true → i - 0x28 ≤ 3
 set_number i h = grind (arith, nat_tests)
 
 escape_2_valid : (i f : ℕ) → IsValidSaid (escape_2 i f)
 unfolding escape_2
 escape_2_valid i f =
-    each_test Fine (eqb i 0x22) (λ _. designate_c1_valid f)
-    (λ _. each_test Fine (is_between 0x28 0x2B i) (λ h. designate_valid (i - 0x28) f (set_number i h)) (λ _. tt))
+    each_test Fine (eqb i 0x22 && eqb f 0x40) (λ _. tt) (λ _.
+    each_test Fine (eqb i 0x22 && eqb f 0x41) (λ _. tt) (λ _.
+    each_test Fine (is_between 0x28 0x2B i && eqb f 0x40) (λ h. set_number i (and_parts _ _ h).0) (λ _.
+    each_test Fine (is_between 0x28 0x2B i && eqb f 0x62) (λ h. set_number i (and_parts _ _ h).0) (λ _.
+    each_test Fine (is_between 0x28 0x2B i && eqb f 0x63) (λ h. set_number i (and_parts _ _ h).0) (λ _.
+    each_test Fine (is_between 0x28 0x2B i && eqb f 0x64) (λ h. set_number i (and_parts _ _ h).0) (λ _. tt))))))
+
+-- what passes the sizes is none
+no_size : (a b c : Bool) → (a && b) ≡ false → (a && c) ≡ true → b ≡ false
+no_size true b c h k = h
+no_size false b c h k = absurd cc
 
 escape_3_valid : (i j f : ℕ) → IsValidSaid (escape_3 i j f)
-unfolding escape_3 full_screen full_row designation_of_drcs
+unfolding escape_3
 escape_3_valid i j f =
-    each_test Fine (eqb i 0x23 && eqb j 0x20) (λ _. each_test Fine (is_c1_final f
-    && not (is_between 0x4C 0x4F f)) (λ h. let p = and_parts _ _ h in
-    screen_final f p.0 p.1) (λ _. tt)) (λ _. each_test Fine (eqb i 0x23
-    && eqb j 0x21) (λ _. each_test Fine (is_c1_final f) (λ h. c1_final f h) (λ _. tt))
-    (λ _. each_test Fine (is_between 0x28 0x2B i
-    && (eqb j 0x20 && eqb f 0x40)) (λ h. set_number i ((and_parts _ _ h).0)) (λ _. tt)))
+    each_test Fine (eqb i 0x23 && eqb j 0x20 && is_between 0x4C 0x4F f) (λ _. tt) (λ n.
+    each_test Fine (eqb i 0x23 && eqb j 0x20 && is_c1_final f)
+    (λ h. screen_final f (and_parts _ _ h).1 (no_size (eqb i 0x23 && eqb j 0x20) _ _ n h)) (λ _.
+    each_test Fine (eqb i 0x23 && eqb j 0x21 && is_c1_final f) (λ h. c1_final f (and_parts _ _ h).1) (λ _.
+    each_test Fine (is_between 0x28 0x2B i && eqb j 0x20 && eqb f 0x40)
+    (λ h. set_number i (and_parts _ _ (and_parts _ _ h).0).0) (λ _. tt))))
 
 escape_valid : (u : List ℕ) → IsValidSaid (escape u)
 unfolding escape
@@ -191,42 +183,38 @@ csi_2_valid p f =
     each_test Fine (eqb p 0x32 && eqb f 0x60) (λ _. tt) (λ _.
     each_test Fine (eqb p 0x33 && eqb f 0x60) (λ _. tt) (λ _. tt))))))))))
 
-area_rows : (n m : ℕ) → (leb 1 n && (leb n m && leb m 24)) ≡ true → IsArea n m
+area_rows : (n m : ℕ) → (leb 1 n && leb n m && leb m 24) ≡ true → IsArea n m
 area_rows n m h =
-    let p = and_parts (leb 1 n) _ h in
-    let q = and_parts (leb n m) (leb m 24) p.1 in
-    (leb-true 1 n p.0, leb-true n m q.0, leb-true m 24 q.1)
+    let p = and_parts _ (leb m 24) h in
+    let q = and_parts (leb 1 n) (leb n m) p.0 in
+    (leb-true 1 n q.0, leb-true n m q.1, leb-true m 24 p.1)
 
-area_valid : (n m f : ℕ) → IsValidSaid (area n m f)
+area_valid : (u : List ℕ) → IsValidSaid (area u)
 unfolding area
-area_valid n m f =
-    each_test Fine (not (leb 1 n && (leb n m && leb m 24))) (λ _. tt) (λ h. let r = area_rows n m (not-false _ h) in
-    each_test Fine (eqb f 0x55) (λ _. r) (λ _. r))
-
-area_to_valid : (n : ℕ) (u : List ℕ) → IsValidSaid (area_to n u)
-unfolding area_to
-area_to_valid n [] = tt
-area_to_valid n (m ∷ []) = tt
-area_to_valid n (m ∷ f ∷ []) = each_test Fine (is_digit m && is_area_final f) (λ _. area_valid _ _ f) (λ _. tt)
-area_to_valid n (m ∷ o ∷ f ∷ []) =
-    each_test Fine (is_digit m && (is_digit o && is_area_final f)) (λ _. area_valid _ _ f) (λ _. tt)
-area_to_valid n (m ∷ o ∷ f ∷ a ∷ u) = tt
-
-area_from_valid : (u : List ℕ) → IsValidSaid (area_from u)
-unfolding area_from
-area_from_valid [] = tt
-area_from_valid (a ∷ []) = tt
-area_from_valid (a ∷ b ∷ []) = tt
-area_from_valid (a ∷ b ∷ c ∷ u) =
-    each_test Fine (is_digit a && eqb b 0x3B) (λ _. area_to_valid _ (c ∷ u))
-    (λ _. each_test Fine (is_digit a && (is_digit b && eqb c 0x3B)) (λ _. area_to_valid _ u) (λ _. tt))
+area_valid [] = tt
+area_valid (a ∷ []) = tt
+area_valid (a ∷ b ∷ []) = tt
+area_valid (a ∷ b ∷ s ∷ []) = tt
+area_valid (a ∷ b ∷ s ∷ c ∷ []) = tt
+area_valid (a ∷ b ∷ s ∷ c ∷ d ∷ []) = tt
+area_valid (a ∷ b ∷ s ∷ c ∷ d ∷ f ∷ []) =
+    let n = two_digits a b in
+    let m = two_digits c d in
+    each_test Fine (not (is_digit a && is_digit b && eqb s 0x3B && is_digit c && is_digit d)) (λ _. tt) (λ _.
+    each_test Fine (not (is_between 0x55 0x56 f)) (λ _. tt) (λ _.
+    each_test Fine (not (leb 1 n && leb n m && leb m 24)) (λ _. tt) (λ h. let r = area_rows n m (not-false _ h) in
+    each_test Fine (eqb f 0x55) (λ _. r) (λ _. r))))
+area_valid (a ∷ b ∷ s ∷ c ∷ d ∷ f ∷ g ∷ u) = tt
 
 csi_valid : (u : List ℕ) → IsValidSaid (csi u)
-unfolding csi csi_1
-csi_valid [] = area_from_valid []
+unfolding csi
+csi_valid [] = area_valid []
 csi_valid (f ∷ []) = each_test Fine (eqb f 0x42) (λ _. tt) (λ _. tt)
 csi_valid (p ∷ f ∷ []) = csi_2_valid p f
-csi_valid (a ∷ b ∷ c ∷ u) = area_from_valid (a ∷ b ∷ c ∷ u)
+csi_valid (a ∷ b ∷ c ∷ []) = area_valid _
+csi_valid (b ∷ s ∷ d ∷ f ∷ []) = area_valid _
+csi_valid (a ∷ b ∷ c ∷ d ∷ f ∷ []) = each_test Fine (eqb c 0x3B) (λ _. area_valid _) (λ _. area_valid _)
+csi_valid (a ∷ b ∷ c ∷ d ∷ e ∷ f ∷ u) = area_valid _
 
 -- units after US
 on_screen : (r c : ℕ) → is_row r ≡ true → is_between 0x41 0x68 c ≡ true → OnScreen (r - 0x40) (c - 0x40)
@@ -246,31 +234,22 @@ position_valid x r v =
     and_parts (is_row r) (is_between 0x41 0x68 c) h in
     said_valid x Text _ v tt (on_screen r c p.0 p.1)) (λ _. said_valid x Text _ v tt tt))
 
--- every choice of sizes is one of the six: 3/10, 3/11, 3/12 and 3/15 are narrow
-size_valid : (a b c d e : Bool)
-    → is_pattern_size (cond (a || (b || (c || d))) 6 12) (cond (e || a) 12 (cond c 5 (cond d 6 10))) ≡ true
-size_valid true b c d true = refl
-size_valid true b c d false = refl
-size_valid false true c d true = refl
-size_valid false true true d false = refl
-size_valid false true false true false = refl
-size_valid false true false false false = refl
-size_valid false false true d true = refl
-size_valid false false true d false = refl
-size_valid false false false true true = refl
-size_valid false false false true false = refl
-size_valid false false false false true = refl
-size_valid false false false false false = refl
-
+-- every size of a form is one of the six
 planes_valid : (a b : Bool) → is_plane_count (cond a 2 (cond b 4 1)) ≡ true
 planes_valid true b = refl
 planes_valid false true = refl
 planes_valid false false = refl
 
 form_valid : (u : List ℕ) → IsValidForm (drcs_form u)
-unfolding drcs_width drcs_height drcs_planes
+unfolding drcs_form
 form_valid u =
-    assumption (size_valid (contains u 0x3A) (contains u 0x3B) (contains u 0x3C) (contains u 0x3F) (contains u 0x36), planes_valid (contains u 0x42) (contains u 0x44))
+    let p = planes_valid (contains u 0x42) (contains u 0x44) in
+    each_test IsValidForm (contains u 0x36) (λ _. record { size = refl; planes = p }) (λ _.
+    each_test IsValidForm (contains u 0x3A) (λ _. record { size = refl; planes = p }) (λ _.
+    each_test IsValidForm (contains u 0x3B) (λ _. record { size = refl; planes = p }) (λ _.
+    each_test IsValidForm (contains u 0x3C) (λ _. record { size = refl; planes = p }) (λ _.
+    each_test IsValidForm (contains u 0x3F) (λ _. record { size = refl; planes = p })
+    (λ _. record { size = refl; planes = p })))))
 
 drcs_code : (c : ℕ) → is_between 0x21 0x7E c ≡ true → (0x21 ≤ c) × (c ≤ 0x7E)
 drcs_code c h = (grind (arith, nat_tests), grind (arith, nat_tests))
@@ -288,17 +267,13 @@ run_from_valid : (k : ColourKind) (n : ℕ) → leb n (last_place k) ≡ true �
 run_from_valid ColourTable n h = let l = leb-true n 31 h in (omega arith, omega arith)
 run_from_valid LookUpTable n h = let l = leb-true n 3 h in (omega arith, omega arith)
 
-colours_from_valid : (x : Context) (i : ℕ) → IsValidContext x → IsValidOutcome (colours_from x i)
-unfolding colours_from
-colours_from_valid x i v =
-    each_test IsValidOutcome (leb i (last_place x.kind)) (λ h. let r = run_from_valid x.kind i h in
-    said_valid x (run_from x.kind i) _ v r.0 r.1) (λ _. said_valid x Skip _ v tt tt)
-
 colour_start_valid : (x : Context) (t : ℕ) → IsValidContext x → Valid (colour_start x t)
 unfolding colour_start
 colour_start_valid x t v =
-    one_valid x _ (λ o _. each_test IsValidOutcome (is_digit o) (λ _. colours_from_valid x (two_digits t o) v)
-    (λ _. said_valid x Skip _ v tt tt))
+    one_valid x _ (λ o _. let i = two_digits t o in
+    each_test IsValidOutcome (is_digit o && leb i (last_place x.kind)) (λ h. let r =
+    run_from_valid x.kind i (and_parts (is_digit o) _ h).1 in
+    said_valid x (run_from x.kind i) _ v r.0 r.1) (λ _. said_valid x Skip _ v tt tt))
 
 colour_valid : (x : Context) → IsValidContext x → Valid (colour_unit x)
 unfolding colour_unit colour_header
@@ -324,22 +299,18 @@ break_valid x v =
     one_valid x _ (λ r _. each_test IsValidOutcome (is_row r) (λ h. said_valid x Text _ v tt (row_number r h))
     (λ _. said_valid x Skip _ v tt tt))
 
-service_valid : (x : Context) (a : ℕ) → IsValidContext x → IsValidOutcome (service x a)
-unfolding service
-service_valid x a v =
-    each_test IsValidOutcome (eqb a 0x41) (λ _. said_valid start_context Text _ start_valid tt tt) (λ _.
-    each_test IsValidOutcome (eqb a 0x42) (λ _. said_valid start_context Text _ start_valid tt tt) (λ _.
-    each_test IsValidOutcome (eqb a 0x43) (λ _. said_valid x Text _ v tt tt) (λ _.
-    each_test IsValidOutcome (eqb a 0x44) (λ _. said_valid x Text _ v tt tt) (λ _.
-    each_test IsValidOutcome (eqb a 0x45) (λ _. said_valid x Text _ v tt (inr refl)) (λ _.
-    each_test IsValidOutcome (eqb a 0x46) (λ _. said_valid x Text _ v tt (inl refl)) (λ _.
-    each_test IsValidOutcome (eqb a 0x4F) (λ _. said_valid x Text _ v tt tt) (λ _. said_valid x Skip _ v tt tt)))))))
-
 service_unit_valid : (x : Context) → IsValidContext x → Valid (service_unit x)
 unfolding service_unit
 service_unit_valid x v =
-    plain_valid x _ (λ a _. each_table Valid (eqb a 0x40) (λ _. break_valid x v)
-    (λ _. complete_valid _ (service_valid x a v)))
+    plain_valid x _ (λ a _. each_table Valid (eqb a 0x40) (λ _. break_valid x v) (λ _.
+    each_table Valid (eqb a 0x41) (λ _. complete_valid _ (said_valid start_context Text _ start_valid tt tt)) (λ _.
+    each_table Valid (eqb a 0x42) (λ _. complete_valid _ (said_valid start_context Text _ start_valid tt tt)) (λ _.
+    each_table Valid (eqb a 0x43) (λ _. complete_valid _ (said_valid x Text _ v tt tt)) (λ _.
+    each_table Valid (eqb a 0x44) (λ _. complete_valid _ (said_valid x Text _ v tt tt)) (λ _.
+    each_table Valid (eqb a 0x45) (λ _. complete_valid _ (said_valid x Text _ v tt (inr refl))) (λ _.
+    each_table Valid (eqb a 0x46) (λ _. complete_valid _ (said_valid x Text _ v tt (inl refl))) (λ _.
+    each_table Valid (eqb a 0x4F) (λ _. complete_valid _ (said_valid x Text _ v tt tt))
+    (λ _. complete_valid _ (said_valid x Skip _ v tt tt))))))))))
 
 us_valid : (x : Context) → IsValidContext x → Valid (us_unit x)
 unfolding us_unit
@@ -373,27 +344,23 @@ misplaced_valid x v = said_valid x Skip _ v tt tt
 entry_valid : (x : Context) (i a : ℕ) → IsValidContext x → i < 32 → Valid (table_entry x i a)
 unfolding table_entry
 entry_valid x i a v l =
-    one_valid x _ (λ b _. each_test IsValidOutcome (has_six_bits b)
+    one_valid x _ (λ b _. each_test IsValidOutcome (leb 0x40 b)
     (λ _. said_valid x (TableRun (i + 1)) _ v (omega arith) (omega arith, colour_fine a b)) (λ _. misplaced_valid x v))
-
-look_up_valid : (x : Context) (i a : ℕ) → IsValidContext x → IsValidOutcome (dclut_value x i a)
-unfolding dclut_value
-look_up_valid x i a v =
-    each_test IsValidOutcome (ltb i 4 && has_six_bits a) (λ h. let l = ltb-true i 4 (and_parts _ _ h).0 in
-    said_valid x (DclutRun (i + 1)) _ v (omega arith) (omega arith, omega arith)) (λ _. misplaced_valid x v)
 
 plain_graphic : (a : ℕ) → is_plain a ≡ true → IsGraphic a
 plain_graphic a h = inl (grind (arith, nat_tests), grind (arith, nat_tests))
 
 run_valid : (m : Mode) (x : Context) (a : ℕ) → IsValidMode m → IsValidContext x → is_plain a ≡ true
     → Valid (run_unit m x a)
-unfolding pattern_unit
 run_valid Text x a n v p = complete_valid _ (said_valid x Text _ v tt (plain_graphic a p))
 run_valid Skip x a n v p = complete_valid _ (said_valid x Skip _ v tt tt)
 run_valid (TableRun i) x a n v p =
-    each_table Valid (ltb i 32 && has_six_bits a) (λ h. entry_valid x i a v (ltb-true i 32 (and_parts _ _ h).0))
+    each_table Valid (ltb i 32 && leb 0x40 a) (λ h. entry_valid x i a v (ltb-true i 32 (and_parts _ _ h).0))
     (λ _. complete_valid _ (misplaced_valid x v))
-run_valid (DclutRun i) x a n v p = complete_valid _ (look_up_valid x i a v)
+run_valid (DclutRun i) x a n v p =
+    each_table Valid (ltb i 4 && leb 0x40 a) (λ h. let l = ltb-true i 4 (and_parts _ _ h).0 in
+    complete_valid _ (said_valid x (DclutRun (i + 1)) _ v (omega arith) (omega arith, omega arith)))
+    (λ _. complete_valid _ (misplaced_valid x v))
 run_valid (DrcsRun c) x a n v p =
     each_table Valid (starts_pattern x c a) (λ s u w. let l = ltb-true c 0x7F (and_parts _ _ s).0 in
     said_valid x (DrcsRun (c + 1)) _ v (omega (arith, n.0), omega arith)

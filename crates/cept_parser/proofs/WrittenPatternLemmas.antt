@@ -14,8 +14,8 @@ use Rattle.cept_codes.specs.Look.{pixel, is_pattern_size, is_plane_count, IsVali
 use Rattle.cept_drcs.specs.Block.{has_pixels, six, BlockPart, blank, whole, adds, may_come, part_after_byte, part_after_bytes}
 use Rattle.cept_drcs.specs.Block.{all_may_come, block_lines}
 use Rattle.cept_drcs.specs.Cut.{Block, Cut, is_opener, plane_of, cut}
-use Rattle.cept_drcs.specs.Unit.{is_pattern, are_blocks, last_block, block_grows, pattern_grows, pattern, plane_lines}
-use Rattle.cept_drcs.proofs.Laws.{pixel_drawn, unit_valid}
+use Rattle.cept_drcs.specs.Unit.{is_pattern, are_blocks, pattern_grows, pattern, plane_lines}
+use Rattle.cept_drcs.proofs.Laws.{pixel_drawn, unit_valid, grows_by_last}
 use Rattle.cept_parser.specs.Spelling.{form_of, half_line_byte, line_bytes, plane_bytes, pattern_bytes}
 use Rattle.cept_parser.proofs.PatternPixelLemmas.{half_within, line_number, line_bit, same_patterns}
 
@@ -256,10 +256,9 @@ lines_of t (suc n) k p s l m =
     beyond : eqb k p ≡ false → k + 1 ≤ p
     beyond e = grind (arith, nat_tests)
 
-last_is : (t : Pattern) (n k : ℕ) → last_block (block_of t k) (blocks_of t (k + 1) n) ≡ block_of t (k + n)
-unfolding last_block
-last_is t zero k = ap (block_of t) (omega arith)
-last_is t (suc n) k = last_is t n (k + 1) ∙ ap (block_of t) (omega arith)
+blocks_end : (t : Pattern) (n k p : ℕ) → k + n ≡ p → blocks_of t k (suc n) ≡ blocks_of t k n ++ block_of t p ∷ []
+blocks_end t zero k p e = let s : k ≡ p = omega arith in ap (λ q. block_of t q ∷ []) s
+blocks_end t (suc n) k p e = ap (λ bs. block_of t k ∷ bs) (blocks_end t n (k + 1) p (omega arith))
 
 four_at_most : (n : ℕ) → IsTrue (is_plane_count n) → n ≤ 4
 four_at_most n t = grind (arith, nat_tests)
@@ -274,35 +273,38 @@ pattern_cut t v =
     let few = four_at_most t.planes v.planes in
     planes_cut t t.planes 0 v.size (omega arith)
 
-first_blocks : (t : Pattern) → IsValidPattern t
-    → blocks_of t 0 t.planes ≡ block_of t 0 ∷ blocks_of t 1 (t.planes - 1)
-first_blocks t v = ap (blocks_of t 0) (some_plane t.planes v.planes)
+-- it begins with the opener of plane 0
+abbrev pub after_first : Pattern → List ℕ
+after_first t = lines_bytes t 0 0 t.h ++ planes_bytes t 1 (t.planes - 1)
+
+pub written_begins : (t : Pattern) → IsValidPattern t → pattern_bytes t ≡ 0x30 ∷ after_first t
+unfolding pattern_bytes plane_bytes
+written_begins t v = ap (planes_bytes t 0) (some_plane t.planes v.planes)
 
 -- a written pattern is a pattern's unit
 pub written_is : (t : Pattern) → IsValidPattern t → is_pattern (form_of t) (pattern_bytes t) ≡ true
 unfolding is_pattern
 written_is t v =
-    let all : are_blocks (form_of t) 0 (blocks_of t 0 t.planes) ≡ true =
-    blocks_are t t.planes 0 v.size (omega arith) in
-    rw (pattern_cut t v) (rw (first_blocks t v) (rw (first_blocks t v) at all))
+    let begins = written_begins t v in
+    let all : are_blocks (form_of t) 0 (cut (pattern_bytes t)).blocks ≡ true =
+    rw (pattern_cut t v) (blocks_are t t.planes 0 v.size (omega arith)) in
+    subst (λ (u : List ℕ). is_pattern (form_of t) u ≡ true) (sym begins)
+    (ap (λ (u : List ℕ). are_blocks (form_of t) 0 (cut u).blocks) (sym begins) ∙ all)
 
 no_line_left : (n h p planes : ℕ) → n ≡ h → p + 1 ≡ planes → (ltb n h || (ltb p 3 && ltb (p + 1) planes)) ≡ false
 no_line_left n h p planes e f = grind (arith, nat_tests)
 
 -- after which no byte fits
 pub written_ends : (t : Pattern) → IsValidPattern t → pattern_grows (form_of t) (pattern_bytes t) ≡ false
-unfolding pattern_grows
 written_ends t v =
     let n = t.planes - 1 in
-    let last : block_grows (form_of t) (block_of t (0 + n)) ≡ false =
-    no_line_left _ t.h (0 + n) t.planes
-    (ap (λ (d : BlockPart). length d.lines) (block_drawn t (0 + n) v.size)
-    ∙ length-map-range_with_len (line_number t (0 + n)) 0 t.h)
-    (sum_of (some_plane t.planes v.planes)) in
-    rw (pattern_cut t v) (rw (first_blocks t v) (ap (block_grows (form_of t)) (last_is t n 0) ∙ last))
-  where
-    sum_of : {k : ℕ} → k ≡ suc (k - 1) → 0 + (k - 1) + 1 ≡ k
-    sum_of e = omega arith
+    let some = some_plane t.planes v.planes in
+    grows_by_last (form_of t) (pattern_bytes t) (blocks_of t 0 n) (block_of t n) (written_is t v)
+    (ap (λ (c : Cut). c.blocks) (pattern_cut t v) ∙ ap (blocks_of t 0) some ∙ blocks_end t n 0 n (omega arith))
+    ∙ no_line_left _ t.h n t.planes
+    (ap (λ (d : BlockPart). length d.lines) (block_drawn t n v.size)
+    ∙ length-map-range_with_len (line_number t n) 0 t.h)
+    (omega arith)
 
 -- ---- the pixels
 
@@ -326,11 +328,3 @@ written_back t v =
     same_patterns (pattern (form_of t) (pattern_bytes t)) t
     (unit_valid (form_of t) (pattern_bytes t) (form_valid t v) (written_is t v)) v refl refl refl
     (λ p y x. pixel_back t p y x v)
-
--- it begins with the opener of plane 0
-abbrev pub after_first : Pattern → List ℕ
-after_first t = lines_bytes t 0 0 t.h ++ planes_bytes t 1 (t.planes - 1)
-
-pub written_begins : (t : Pattern) → IsValidPattern t → pattern_bytes t ≡ 0x30 ∷ after_first t
-unfolding pattern_bytes plane_bytes
-written_begins t v = ap (planes_bytes t 0) (some_plane t.planes v.planes)

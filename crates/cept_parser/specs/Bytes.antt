@@ -92,11 +92,6 @@ abbrev pub then_plain : Context → (ℕ → Table) → Table
 then_plain x k [] = unsaid x Open
 then_plain x k (c ∷ u) = if is_plain c then k c u else unsaid x Misfit
 
--- one plain byte, which decides what is said
-abbrev pub one_plain : Context → (ℕ → Outcome) → Table
-one_plain x k [] = unsaid x Open
-one_plain x k (c ∷ u) = if is_plain c then complete (k c) u else unsaid x Misfit
-
 -- a sequence: at most n plain bytes below `final`, and one from there to 7/15, or one byte too many
 abbrev pub sequence : ℕ → ℕ → List ℕ → Fit
 sequence final n [] = Open

@@ -1,18 +1,12 @@
 -- Control sequences: CSI, at most seven bytes 2/0 to 3/15, and a byte 4/0 to 7/15. That CSI is 9/11, or ESC 5/11, is
 -- after ISO 2022. Own are the shape of a sequence, the limit of seven bytes, which sequences there are and what each
 -- says, and what is refused. The names beside the sequences are those that the field uses.
-use Rattle.std.specs.Prelude.{ℕ, ◌-◌, Bool, true, false, not, ◌&&◌, List, [], ◌∷◌, if◌then◌else◌, ◌==◌, nat_le}
+use Rattle.std.specs.Prelude.{ℕ, ◌-◌, true, false, not, ◌&&◌, List, [], ◌∷◌, if◌then◌else◌, ◌==◌, nat_le}
 use Rattle.cept_codes.specs.declared.command.Command.TheVariants as command
 use Rattle.cept_codes.specs.declared.item.Reason.TheVariants.{UnknownCsi, BadParameter}
 use Rattle.cept_codes.specs.declared.item.Said.{Said}
 use Rattle.cept_codes.specs.declared.item.Said.TheVariants.{Command as Says, Refused}
-use Rattle.cept_parser.specs.Bytes.{is_between, is_digit, digit, two_digits}
-
--- CSI f
-unfoldable pub csi_1 : ℕ → Said
-csi_1 f =
-    if f == 0x42 then Says command.StopConceal else  -- STC
-    Refused UnknownCsi
+use Rattle.cept_parser.specs.Bytes.{is_between, is_digit, two_digits}
 
 -- CSI p f
 unfoldable pub csi_2 : ℕ → ℕ → Said
@@ -29,37 +23,23 @@ csi_2 p f =
     if p == 0x33 && f == 0x60 then Says (command.Implicit false) else  -- DIS
     Refused UnknownCsi
 
--- CSI n 3/11 m f: the scrolling area of rows n to m is created (5/5) or deleted (5/6)
-unfoldable pub area : ℕ → ℕ → ℕ → Said
-area n m f =
-    if not (nat_le 1 n && (nat_le n m && nat_le m 24)) then Refused BadParameter else
+-- CSI a b 3/11 c d f: the scrolling area from row a b to row c d, each of two digits, is created (5/5) or deleted (5/6)
+unfoldable pub area : List ℕ → Said
+area (a ∷ b ∷ s ∷ c ∷ d ∷ f ∷ []) =
+    let n = two_digits a b in
+    let m = two_digits c d in
+    if not (is_digit a && is_digit b && s == 0x3B && is_digit c && is_digit d) then Refused UnknownCsi else
+    if not (is_between 0x55 0x56 f) then Refused UnknownCsi else
+    if not (nat_le 1 n && nat_le n m && nat_le m 24) then Refused BadParameter else
     if f == 0x55 then Says (command.AreaCreate n m) else  -- CSA
     Says (command.AreaDelete n m)  -- DSA
+area _ = Refused UnknownCsi
 
--- the final byte of an area form
-abbrev pub is_area_final : ℕ → Bool
-is_area_final f = is_between 0x55 0x56 f
-
--- m f after n 3/11, m of one digit or two
-unfoldable pub area_to : ℕ → List ℕ → Said
-area_to n (m ∷ f ∷ []) =
-    if is_digit m && is_area_final f then area n (digit m) f else
-    Refused UnknownCsi
-area_to n (m ∷ o ∷ f ∷ []) =
-    if is_digit m && (is_digit o && is_area_final f) then area n (two_digits m o) f else
-    Refused UnknownCsi
-area_to n _ = Refused UnknownCsi
-
--- CSI n 3/11 m f, n of one digit or two
-unfoldable pub area_from : List ℕ → Said
-area_from (a ∷ b ∷ c ∷ u) =
-    if is_digit a && b == 0x3B then area_to (digit a) (c ∷ u) else
-    if is_digit a && (is_digit b && c == 0x3B) then area_to (two_digits a b) u else
-    Refused UnknownCsi
-area_from _ = Refused UnknownCsi
-
--- a whole control sequence, after CSI
+-- a whole control sequence, after CSI. A row of one digit is read as with 3/0 before it
 unfoldable pub csi : List ℕ → Said
-csi (f ∷ []) = csi_1 f
+csi (f ∷ []) = if f == 0x42 then Says command.StopConceal else Refused UnknownCsi  -- STC
 csi (p ∷ f ∷ []) = csi_2 p f
-csi u = area_from u
+csi (b ∷ s ∷ d ∷ f ∷ []) = area (0x30 ∷ b ∷ s ∷ 0x30 ∷ d ∷ f ∷ [])
+csi (a ∷ b ∷ c ∷ d ∷ f ∷ []) =
+    if c == 0x3B then area (a ∷ b ∷ c ∷ 0x30 ∷ d ∷ f ∷ []) else area (0x30 ∷ a ∷ b ∷ c ∷ d ∷ f ∷ [])
+csi u = area u

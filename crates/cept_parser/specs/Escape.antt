@@ -26,53 +26,25 @@ escape_1 f =
     if f == 0x7E then Says (command.LockRight 1) else  -- LS1R
     Refused UnknownEscape
 
--- 1B i f, i 2/8 to 2/11: a set is designated to G0 to G3. The finals are own
-unfoldable pub designation : ℕ → ℕ → Said
-designation g f =
-    if f == 0x40 then Says (command.Designate g P) else  -- primary set
-    if f == 0x62 then Says (command.Designate g S) else  -- supplementary set
-    if f == 0x63 then Says (command.Designate g M) else  -- first mosaic set
-    if f == 0x64 then Says (command.Designate g N) else  -- second mosaic set
-    Refused UnknownEscape
-
--- 1B i f, i 2/2: a C1 set is designated
-unfoldable pub designation_of_c1 : ℕ → Said
-designation_of_c1 f =
-    if f == 0x40 then Says (command.DesignateC1 Serial) else
-    if f == 0x41 then Says (command.DesignateC1 Parallel) else
-    Refused UnknownEscape
-
--- 1B i f
+-- 1B i f: i 2/2 designates a C1 set, and 2/8 to 2/11 a set to G0 to G3. The finals of sets are own
 unfoldable pub escape_2 : ℕ → ℕ → Said
 escape_2 i f =
-    if i == 0x22 then designation_of_c1 f else
-    if is_between 0x28 0x2B i then designation (i - 0x28) f else
+    if i == 0x22 && f == 0x40 then Says (command.DesignateC1 Serial) else  -- serial C1 set
+    if i == 0x22 && f == 0x41 then Says (command.DesignateC1 Parallel) else  -- parallel C1 set
+    if is_between 0x28 0x2B i && f == 0x40 then Says (command.Designate (i - 0x28) P) else  -- primary set
+    if is_between 0x28 0x2B i && f == 0x62 then Says (command.Designate (i - 0x28) S) else  -- supplementary set
+    if is_between 0x28 0x2B i && f == 0x63 then Says (command.Designate (i - 0x28) M) else  -- first mosaic set
+    if is_between 0x28 0x2B i && f == 0x64 then Says (command.Designate (i - 0x28) N) else  -- second mosaic set
     Refused UnknownEscape
 
--- 1B 2/3 2/0 f: an attribute of the full screen, 4/0 to 5/15 without the sizes 4/12 to 4/15 (own)
-unfoldable pub full_screen : ℕ → Said
-full_screen f =
-    if is_c1_final f && not (is_between 0x4C 0x4F f) then Says (command.FullScreen (f - 0x40)) else
-    Refused UnknownEscape
-
--- 1B 2/3 2/1 f: an attribute of the full row (own)
-unfoldable pub full_row : ℕ → Said
-full_row f =
-    if is_c1_final f then Says (command.FullRow (f - 0x40)) else
-    Refused UnknownEscape
-
--- 1B i 2/0 4/0, i 2/8 to 2/11: the downloaded set is designated to G0 to G3 (own)
-unfoldable pub designation_of_drcs : ℕ → ℕ → ℕ → Said
-designation_of_drcs i j f =
-    if is_between 0x28 0x2B i && (j == 0x20 && f == 0x40) then Says (command.Designate (i - 0x28) D) else
-    Refused UnknownEscape
-
--- 1B i j f
+-- 1B i j f (own): an attribute of the full screen (no size) or of the full row, or the downloaded set for G0 to G3
 unfoldable pub escape_3 : ℕ → ℕ → ℕ → Said
 escape_3 i j f =
-    if i == 0x23 && j == 0x20 then full_screen f else
-    if i == 0x23 && j == 0x21 then full_row f else
-    designation_of_drcs i j f
+    if i == 0x23 && j == 0x20 && is_between 0x4C 0x4F f then Refused UnknownEscape else  -- sizes
+    if i == 0x23 && j == 0x20 && is_c1_final f then Says (command.FullScreen (f - 0x40)) else  -- full screen
+    if i == 0x23 && j == 0x21 && is_c1_final f then Says (command.FullRow (f - 0x40)) else  -- full row
+    if is_between 0x28 0x2B i && j == 0x20 && f == 0x40 then Says (command.Designate (i - 0x28) D) else  -- DRCS
+    Refused UnknownEscape
 
 -- a whole escape sequence, after 1B
 unfoldable pub escape : List ℕ → Said

@@ -56,13 +56,9 @@ pub record Reading : Type 0 where
   pub at : ℕ
   pub pending : List ℕ
 
--- the item of a front at this place
-abbrev pub item_of : ℕ → Front → Item
-item_of at f = record { at = at; len = f.size; what = f.said }
-
 -- a reading with items before it
 abbrev pub reading_with_items : List Item → Reading → Reading
-reading_with_items is r = record { items = is ++ r.items; context = r.context; at = r.at; pending = r.pending }
+reading_with_items is r = record r { items = is ++ r.items }
 
 -- bytes of which none is an item yet
 abbrev pub waiting_reading : Context → ℕ → List ℕ → Reading
@@ -71,7 +67,8 @@ waiting_reading x at b = record { items = []; context = x; at = at; pending = b 
 -- the reading that begins with this first item, and goes on as told after it
 unfoldable pub reading_by : (Context → ℕ → List ℕ → Reading) → Context → ℕ → List ℕ → Option Front → Reading
 reading_by more x at b None = waiting_reading x at b
-reading_by more x at b (Some f) = reading_with_items (item_of at f ∷ []) (more f.next (at + f.size) (drop f.size b))
+reading_by more x at b (Some f) =
+    reading_with_items (record { at = at; len = f.size; what = f.said } ∷ []) (more f.next (at + f.size) (drop f.size b))
 
 -- the reading of bytes that stand at this place, up to so many items
 unfoldable pub reading_within : ℕ → Context → ℕ → List ℕ → Reading

@@ -11,15 +11,11 @@ use Rattle.cept_parser.specs.declared.context.Mode.TheVariants.{Text, TableRun, 
 use Rattle.cept_parser.specs.declared.context.Context.{Context}
 use Rattle.cept_parser.specs.declared.context.Outcome.{Outcome}
 use Rattle.cept_parser.specs.declared.fit.Fit.TheVariants.{Misfit, Whole, Longer}
-use Rattle.cept_parser.specs.Bytes.{outcome, Table, complete, one_plain}
+use Rattle.cept_parser.specs.Bytes.{outcome, Table, complete, then_plain}
 
 -- a plain byte that can't begin or continue the unit of its run
 abbrev pub misplacement : Context → Outcome
 misplacement x = outcome x Skip (Refused BadParameter)
-
--- a byte of columns 4 to 7, which carries six bits
-abbrev pub has_six_bits : ℕ → Bool
-has_six_bits a = nat_le 0x40 a
 
 -- the bit of a number worth 2 to the power of k
 abbrev pub bit : ℕ → ℕ → ℕ
@@ -35,17 +31,11 @@ colour_part k a b = 8 * bit (k + 3) a + 4 * bit k a + (2 * bit (k + 3) b + bit k
 unfoldable pub colour : ℕ → ℕ → Rgb
 colour a b = record { r = colour_part 2 a b; g = colour_part 1 a b; b = colour_part 0 a b }
 
--- TableRun: the second byte of an entry
+-- TableRun: the second byte of an entry, which is of columns 4 to 7 as the first
 unfoldable pub table_entry : Context → ℕ → ℕ → Table
-table_entry x i a = one_plain x (λ b.
-    if has_six_bits b then outcome x (TableRun (i + 1)) (Says (command.Entry i (colour a b))) else
-    misplacement x)
-
--- DclutRun: the five low bits of a byte
-unfoldable pub dclut_value : Context → ℕ → ℕ → Outcome
-dclut_value x i a =
-    if nat_lt i 4 && has_six_bits a then outcome x (DclutRun (i + 1)) (Says (command.Dclut i (a % 32))) else
-    misplacement x
+table_entry x i a = then_plain x (λ b. complete (
+    if nat_le 0x40 b then outcome x (TableRun (i + 1)) (Says (command.Entry i (colour a b))) else
+    misplacement x))
 
 -- DrcsRun: a byte that begins a pattern for this code
 abbrev pub starts_pattern : Context → ℕ → ℕ → Bool
@@ -58,18 +48,16 @@ with_pattern x c u = record {
   outcome = outcome x (DrcsRun (c + 1)) (Says (command.DrcsPattern c (pattern x.form u)));
 }
 
--- patterns for a code
-unfoldable pub pattern_unit : Context → ℕ → ℕ → Table
-pattern_unit x c a u =
-    if starts_pattern x c a then with_pattern x c (a ∷ u) else
-    complete (misplacement x) u
-
--- the unit of a mode that begins with this plain byte
+-- the unit of a mode that begins with this plain byte. A value of the DCLUT is its five low bits
 abbrev pub run_unit : Mode → Context → ℕ → Table
 run_unit Text x a u = complete (outcome x Text (Says (command.Graphic a))) u
 run_unit Skip x a u = complete (outcome x Skip (Says command.Skipped)) u
 run_unit (TableRun i) x a u =
-    if nat_lt i 32 && has_six_bits a then table_entry x i a u else
+    if nat_lt i 32 && nat_le 0x40 a then table_entry x i a u else
     complete (misplacement x) u
-run_unit (DclutRun i) x a u = complete (dclut_value x i a) u
-run_unit (DrcsRun c) x a u = pattern_unit x c a u
+run_unit (DclutRun i) x a u =
+    if nat_lt i 4 && nat_le 0x40 a then complete (outcome x (DclutRun (i + 1)) (Says (command.Dclut i (a % 32)))) u else
+    complete (misplacement x) u
+run_unit (DrcsRun c) x a u =
+    if starts_pattern x c a then with_pattern x c (a ∷ u) else
+    complete (misplacement x) u

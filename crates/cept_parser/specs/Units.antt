@@ -1,6 +1,6 @@
 -- Units that begin with US (1F): the position, downloaded characters (DRCS), colours, the format and the service (the
 -- position is of ETS 300 072 and T/CD 6-1; the other units with their bytes, defaults and modes are this profile's own).
-use Rattle.std.specs.Prelude.{ℕ, ◌-◌, Bool, not, ◌&&◌, ◌||◌, List, [], ◌∷◌, if◌then◌else◌, ◌==◌, nat_le}
+use Rattle.std.specs.Prelude.{ℕ, ◌-◌, Bool, not, ◌&&◌, List, [], ◌∷◌, if◌then◌else◌, ◌==◌, nat_le}
 use Rattle.cept_codes.specs.declared.command.C1Set.TheVariants.{Serial, Parallel}
 use Rattle.cept_codes.specs.declared.command.Command.TheVariants as command
 use Rattle.cept_codes.specs.declared.command.Form.{Form}
@@ -14,51 +14,34 @@ use Rattle.cept_parser.specs.declared.context.Context.{Context}
 use Rattle.cept_parser.specs.declared.context.Outcome.{Outcome}
 use Rattle.cept_parser.specs.Context.{start_context}
 use Rattle.cept_parser.specs.Bytes.{is_between, is_digit, two_digits, is_row, contains}
-use Rattle.cept_parser.specs.Bytes.{outcome, is_longer, Table, complete, then_plain, one_plain, with_options}
+use Rattle.cept_parser.specs.Bytes.{outcome, is_longer, Table, complete, then_plain, with_options}
 
 -- 1F r c, r 4/0 to 7/15: a position, c 4/1 to 6/8 for column 1 to 40
 unfoldable pub us_position : Context → ℕ → Table
-us_position x r = one_plain x (λ c.
+us_position x r = then_plain x (λ c. complete (
     if is_row r && is_between 0x41 0x68 c then outcome x Text (Says (command.Position (r - 0x40) (c - 0x40))) else
-    outcome x Text (Refused BadParameter))
+    outcome x Text (Refused BadParameter)))
 
 -- the optional parts of 1F 23 20: deletion, the form of one byte, size, planes
 abbrev pub drcs_parts : List (List ℕ)
 drcs_parts =
     (0x20 ∷ 0x28 ∷ []) ∷ (0x40 ∷ []) ∷ (0x36 ∷ 0x37 ∷ 0x3A ∷ 0x3B ∷ 0x3C ∷ 0x3F ∷ []) ∷ (0x41 ∷ 0x42 ∷ 0x44 ∷ []) ∷ []
 
--- the width of their form. Sizes: 3/6 12x12, 3/7 12x10, 3/10 6x12, 3/11 6x10, 3/12 6x5, 3/15 6x6, else 12x10
-unfoldable pub drcs_width : List ℕ → ℕ
-drcs_width u =
-    if contains u 0x3A || (contains u 0x3B || (contains u 0x3C || contains u 0x3F)) then 6 else
-    12
-
--- its height, by the same sizes
-unfoldable pub drcs_height : List ℕ → ℕ
-drcs_height u =
-    if contains u 0x36 || contains u 0x3A then 12 else
-    if contains u 0x3C then 5 else
-    if contains u 0x3F then 6 else
-    10
-
--- planes: 4/1 one, 4/2 two, 4/4 four, else one
-unfoldable pub drcs_planes : List ℕ → ℕ
-drcs_planes u =
-    if contains u 0x42 then 2 else
-    if contains u 0x44 then 4 else
-    1
-
--- the form: width, height and planes
-abbrev pub drcs_form : List ℕ → Form
-drcs_form u = record { w = drcs_width u; h = drcs_height u; planes = drcs_planes u }
+-- the form that they tell: width, height and planes
+unfoldable pub drcs_form : List ℕ → Form
+drcs_form u =
+    let planes = if contains u 0x42 then 2 else if contains u 0x44 then 4 else 1 in  -- one by 4/1, or by none
+    if contains u 0x36 then record { w = 12; h = 12; planes = planes } else
+    if contains u 0x3A then record { w = 6; h = 12; planes = planes } else
+    if contains u 0x3B then record { w = 6; h = 10; planes = planes } else
+    if contains u 0x3C then record { w = 6; h = 5; planes = planes } else
+    if contains u 0x3F then record { w = 6; h = 6; planes = planes } else
+    record { w = 12; h = 10; planes = planes }  -- by 3/7, or by none
 
 -- 1F 23 20: the header of downloaded characters
 unfoldable pub drcs_header : Context → List ℕ → Outcome
 drcs_header x u =
-    record {
-      said = Says (command.DrcsHeader (contains u 0x28) (drcs_form u));
-      next = record { mode = Skip; kind = x.kind; form = drcs_form u };
-    }
+    outcome (record x { form = drcs_form u }) Skip (Says (command.DrcsHeader (contains u 0x28) (drcs_form u)))
 
 -- 1F 23: downloaded characters
 unfoldable pub drcs_unit : Context → Table
@@ -74,10 +57,8 @@ colour_parts = (0x20 ∷ 0x22 ∷ []) ∷ (0x34 ∷ []) ∷ (0x40 ∷ []) ∷ []
 -- 1F 26 20: the header of colours, for the DCLUT by 2/2
 unfoldable pub colour_header : Context → List ℕ → Outcome
 colour_header x u =
-    record {
-      said = Says (command.ColourHeader (contains u 0x22));
-      next = record { mode = Skip; kind = (if contains u 0x22 then LookUpTable else ColourTable); form = x.form };
-    }
+    let dclut = contains u 0x22 in
+    outcome (record x { kind = if dclut then LookUpTable else ColourTable }) Skip (Says (command.ColourHeader dclut))
 
 -- the last place of each kind of colours
 abbrev pub last_place : ColourKind → ℕ
@@ -89,17 +70,12 @@ abbrev pub run_from : ColourKind → ℕ → Mode
 run_from ColourTable i = TableRun i
 run_from LookUpTable i = DclutRun i
 
--- colours begin at a place
-unfoldable pub colours_from : Context → ℕ → Outcome
-colours_from x i =
-    if nat_le i (last_place x.kind) then outcome x (run_from x.kind i) (Says (command.ColourStart i)) else
-    outcome x Skip (Refused BadParameter)
-
--- 1F 26 t o, t a digit: the place of two digits
+-- 1F 26 t o, t a digit: colours begin at the place of two digits
 unfoldable pub colour_start : Context → ℕ → Table
-colour_start x t = one_plain x (λ o.
-    if is_digit o then colours_from x (two_digits t o) else
-    outcome x Skip (Refused BadParameter))
+colour_start x t = then_plain x (λ o. complete (
+    let i = two_digits t o in
+    if is_digit o && nat_le i (last_place x.kind) then outcome x (run_from x.kind i) (Says (command.ColourStart i)) else
+    outcome x Skip (Refused BadParameter)))
 
 -- 1F 26: colours
 unfoldable pub colour_unit : Context → Table
@@ -120,27 +96,22 @@ format x u =
 
 -- 1F 2F 40 r: the service is broken at a row
 unfoldable pub service_break : Context → Table
-service_break x = one_plain x (λ r.
+service_break x = then_plain x (λ r. complete (
     if is_row r then outcome x Text (Says (command.ServiceBreak (r - 0x40))) else
-    outcome x Skip (Refused BadParameter))
+    outcome x Skip (Refused BadParameter)))
 
--- 1F 2F a: the other service units. Full defaults bring back the first context
-unfoldable pub service : Context → ℕ → Outcome
-service x a =
-    if a == 0x41 then outcome start_context Text (Says (command.FullDefaults Serial)) else
-    if a == 0x42 then outcome start_context Text (Says (command.FullDefaults Parallel)) else
-    if a == 0x43 then outcome x Text (Says (command.ControlDefaults Serial)) else
-    if a == 0x44 then outcome x Text (Says (command.ControlDefaults Parallel)) else
-    if a == 0x45 then outcome x Text (Says (command.Revision 2)) else
-    if a == 0x46 then outcome x Text (Says (command.Revision 1)) else
-    if a == 0x4F then outcome x Text (Says command.ServiceEnd) else
-    outcome x Skip (Refused BadParameter)
-
--- 1F 2F: the service
+-- 1F 2F: the service. Full defaults bring back the first context
 unfoldable pub service_unit : Context → Table
 service_unit x = then_plain x (λ a u.
     if a == 0x40 then service_break x u else
-    complete (service x a) u)
+    if a == 0x41 then complete (outcome start_context Text (Says (command.FullDefaults Serial))) u else
+    if a == 0x42 then complete (outcome start_context Text (Says (command.FullDefaults Parallel))) u else
+    if a == 0x43 then complete (outcome x Text (Says (command.ControlDefaults Serial))) u else
+    if a == 0x44 then complete (outcome x Text (Says (command.ControlDefaults Parallel))) u else
+    if a == 0x45 then complete (outcome x Text (Says (command.Revision 2))) u else
+    if a == 0x46 then complete (outcome x Text (Says (command.Revision 1))) u else
+    if a == 0x4F then complete (outcome x Text (Says command.ServiceEnd)) u else
+    complete (outcome x Skip (Refused BadParameter)) u)
 
 -- the units after 1F
 unfoldable pub us_unit : Context → Table

@@ -1,19 +1,8 @@
 ghost use Rattle.std.specs.Prelude.{◌≡◌};
-ghost use Rattle.cept_parser.specs.Csi.{csi_1, csi_2, area, area_to, area_from, csi};
+ghost use Rattle.cept_parser.specs.Csi.{csi_2, area, csi};
 
-use crate::bytes::{digit, is_digit, two_digits};
+use crate::bytes::{is_digit, two_digits};
 use cept_codes::{Command, Reason, Said};
-
-/// CSI and a final byte.
-#[tactic(auto, unfolding(crate::specs::Csi::csi_1))]
-fn csi_1(last: u8) -> Said
-    ensures { result ≡ csi_1 last }
-{
-    match last {
-        0x42 => Said::Command(Command::StopConceal), // STC
-        _ => Said::Refused(Reason::UnknownCsi),
-    }
-}
 
 /// CSI, a parameter and a final byte.
 #[tactic(auto, unfolding(crate::specs::Csi::csi_2))]
@@ -35,57 +24,41 @@ fn csi_2(first: u8, last: u8) -> Said
     }
 }
 
-/// A scrolling area of these rows is created or deleted.
+/// A scrolling area is created or deleted: two rows of two digits, a semicolon between them, and the
+/// final byte.
 #[tactic(auto, unfolding(crate::specs::Csi::area))]
-fn area(top: u8, bottom: u8, last: u8) -> Said
-    ensures { result ≡ area top bottom last }
-{
-    if !(1 <= top && top <= bottom && bottom <= 24) {
-        Said::Refused(Reason::BadParameter)
-    } else if last == 0x55 {
-        Said::Command(Command::AreaCreate(top, bottom))
-    } else {
-        Said::Command(Command::AreaDelete(top, bottom))
-    }
-}
-
-/// The second row of an area, of one digit or two, and the final byte.
-#[tactic(auto, unfolding(crate::specs::Csi::area_to))]
-fn area_to(top: u8, bytes: &[u8]) -> Said
-    ensures { result ≡ area_to top bytes.now }
+fn area(bytes: &[u8]) -> Said
+    ensures { result ≡ area bytes.now }
 {
     match bytes {
-        [m, last @ 0x55..=0x56] if is_digit(*m) => area(top, digit(*m), *last),
-        [m, o, last @ 0x55..=0x56] if is_digit(*m) && is_digit(*o) => {
-            area(top, two_digits(*m, *o), *last)
+        [a, b, 0x3B, c, d, last @ 0x55..=0x56]
+            if is_digit(*a) && is_digit(*b) && is_digit(*c) && is_digit(*d) => {
+            let top = two_digits(*a, *b);
+            let bottom = two_digits(*c, *d);
+            if !(1 <= top && top <= bottom && bottom <= 24) {
+                Said::Refused(Reason::BadParameter)
+            } else if *last == 0x55 {
+                Said::Command(Command::AreaCreate(top, bottom)) // CSA
+            } else {
+                Said::Command(Command::AreaDelete(top, bottom)) // DSA
+            }
         }
         _ => Said::Refused(Reason::UnknownCsi),
     }
 }
 
-/// An area: its first row, of one digit or two, a semicolon, and the rest.
-#[tactic(auto, unfolding(crate::specs::Csi::area_from, crate::specs::Csi::area_to))]
-fn area_from(bytes: &[u8]) -> Said
-    ensures { result ≡ area_from bytes.now }
-{
-    match bytes {
-        [n, 0x3B, rest @ ..] if is_digit(*n) => area_to(digit(*n), rest),
-        [n, o, 0x3B, rest @ ..] if is_digit(*n) && is_digit(*o) => area_to(
-            two_digits(*n, *o),
-            rest,
-        ),
-        _ => Said::Refused(Reason::UnknownCsi),
-    }
-}
-
-/// What a whole control sequence says, after CSI.
+/// What a whole control sequence says, after CSI. A row of one digit is read as with 3/0 before it.
 #[tactic(auto, unfolding(crate::specs::Csi::csi))]
 pub fn csi(bytes: &[u8]) -> Said
     ensures { result ≡ csi bytes.now }
 {
     match bytes {
-        [last] => csi_1(*last),
+        [0x42] => Said::Command(Command::StopConceal), // STC
+        [_] => Said::Refused(Reason::UnknownCsi),
         [first, last] => csi_2(*first, *last),
-        _ => area_from(bytes),
+        [b, s, d, last] => area(&[0x30, *b, *s, 0x30, *d, *last]),
+        [a, b, 0x3B, d, last] => area(&[*a, *b, 0x3B, 0x30, *d, *last]),
+        [a, b, c, d, last] => area(&[0x30, *a, *b, *c, *d, *last]),
+        _ => area(bytes),
     }
 }

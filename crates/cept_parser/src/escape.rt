@@ -1,7 +1,5 @@
 ghost use Rattle.std.specs.Prelude.{◌≡◌};
-ghost use Rattle.cept_parser.specs.Escape.{is_c1_final, escape_1, designation, designation_of_c1};
-ghost use Rattle.cept_parser.specs.Escape.{escape_2, full_screen};
-ghost use Rattle.cept_parser.specs.Escape.{full_row, designation_of_drcs, escape_3, escape};
+ghost use Rattle.cept_parser.specs.Escape.{is_c1_final, escape_1, escape_2, escape_3, escape};
 
 use cept_codes::{C1Set, Command, Reason, Said, SetId};
 
@@ -28,89 +26,34 @@ fn escape_1(last: u8) -> Said
     }
 }
 
-/// A set is designated to G0 to G3.
-#[tactic(auto, unfolding(crate::specs::Escape::designation))]
-fn designation(target: u8, last: u8) -> Said
-    ensures { result ≡ designation target last }
-{
-    match last {
-        0x40 => Said::Command(Command::Designate(target, SetId::P)), // primary set
-        0x62 => Said::Command(Command::Designate(target, SetId::S)), // supplementary set
-        0x63 => Said::Command(Command::Designate(target, SetId::M)), // first mosaic set
-        0x64 => Said::Command(Command::Designate(target, SetId::N)), // second mosaic set
-        _ => Said::Refused(Reason::UnknownEscape),
-    }
-}
-
-/// A C1 set is designated.
-#[tactic(auto, unfolding(crate::specs::Escape::designation_of_c1))]
-fn designation_of_c1(last: u8) -> Said
-    ensures { result ≡ designation_of_c1 last }
-{
-    match last {
-        0x40 => Said::Command(Command::DesignateC1(C1Set::Serial)),
-        0x41 => Said::Command(Command::DesignateC1(C1Set::Parallel)),
-        _ => Said::Refused(Reason::UnknownEscape),
-    }
-}
-
-/// ESC, an intermediate byte and a final byte.
+/// ESC, an intermediate byte and a final byte: a C1 set is designated, or a set to G0 to G3.
 #[tactic(auto, unfolding(crate::specs::Escape::escape_2))]
 fn escape_2(first: u8, last: u8) -> Said
     ensures { result ≡ escape_2 first last }
 {
-    match first {
-        0x22 => designation_of_c1(last),
-        0x28..=0x2B => designation(first - 0x28, last),
+    match (first, last) {
+        (0x22, 0x40) => Said::Command(Command::DesignateC1(C1Set::Serial)), // serial C1 set
+        (0x22, 0x41) => Said::Command(Command::DesignateC1(C1Set::Parallel)), // parallel C1 set
+        (0x28..=0x2B, 0x40) => Said::Command(Command::Designate(first - 0x28, SetId::P)), // primary set
+        (0x28..=0x2B, 0x62) => Said::Command(Command::Designate(first - 0x28, SetId::S)), // supplementary set
+        (0x28..=0x2B, 0x63) => Said::Command(Command::Designate(first - 0x28, SetId::M)), // first mosaic set
+        (0x28..=0x2B, 0x64) => Said::Command(Command::Designate(first - 0x28, SetId::N)), // second mosaic set
         _ => Said::Refused(Reason::UnknownEscape),
     }
 }
 
-/// An attribute of the full screen: no size.
-#[tactic(auto, unfolding(crate::specs::Escape::full_screen))]
-fn full_screen(last: u8) -> Said
-    ensures { result ≡ full_screen last }
-{
-    if is_c1_final(last) && !(0x4C <= last && last <= 0x4F) {
-        Said::Command(Command::FullScreen(last - 0x40))
-    } else {
-        Said::Refused(Reason::UnknownEscape)
-    }
-}
-
-/// An attribute of the full row.
-#[tactic(auto, unfolding(crate::specs::Escape::full_row))]
-fn full_row(last: u8) -> Said
-    ensures { result ≡ full_row last }
-{
-    if is_c1_final(last) {
-        Said::Command(Command::FullRow(last - 0x40))
-    } else {
-        Said::Refused(Reason::UnknownEscape)
-    }
-}
-
-/// The downloaded set is designated to G0 to G3.
-#[tactic(auto, unfolding(crate::specs::Escape::designation_of_drcs))]
-fn designation_of_drcs(first: u8, second: u8, last: u8) -> Said
-    ensures { result ≡ designation_of_drcs first second last }
-{
-    if 0x28 <= first && first <= 0x2B && second == 0x20 && last == 0x40 {
-        Said::Command(Command::Designate(first - 0x28, SetId::D))
-    } else {
-        Said::Refused(Reason::UnknownEscape)
-    }
-}
-
-/// ESC, two intermediate bytes and a final byte.
+/// ESC, two intermediate bytes and a final byte: an attribute of the full screen (no size) or of the
+/// full row, or the downloaded set for G0 to G3.
 #[tactic(auto, unfolding(crate::specs::Escape::escape_3))]
 fn escape_3(first: u8, second: u8, last: u8) -> Said
     ensures { result ≡ escape_3 first second last }
 {
-    match (first, second) {
-        (0x23, 0x20) => full_screen(last),
-        (0x23, 0x21) => full_row(last),
-        _ => designation_of_drcs(first, second, last),
+    match (first, second, last) {
+        (0x23, 0x20, 0x4C..=0x4F) => Said::Refused(Reason::UnknownEscape), // sizes
+        (0x23, 0x20, _) if is_c1_final(last) => Said::Command(Command::FullScreen(last - 0x40)), // full screen
+        (0x23, 0x21, _) if is_c1_final(last) => Said::Command(Command::FullRow(last - 0x40)), // full row
+        (0x28..=0x2B, 0x20, 0x40) => Said::Command(Command::Designate(first - 0x28, SetId::D)), // DRCS
+        _ => Said::Refused(Reason::UnknownEscape),
     }
 }
 

@@ -1,9 +1,8 @@
-ghost use Rattle.std.specs.Prelude.{◌≡◌, ◌≢◌, ◌≤◌, ◌<◌, ◌+◌, [], length, Bool, false};
+ghost use Rattle.std.specs.Prelude.{◌≡◌, ◌≢◌, ◌≤◌, ◌<◌, ◌+◌, [], length, Bool, false, nat_le};
 ghost use Rattle.cept_codes.specs.Command.{IsValidForm};
 ghost use Rattle.cept_parser.specs.Fit.{answer};
-ghost use Rattle.cept_parser.specs.Runs.{misplacement, has_six_bits, bit, colour_part, colour};
-ghost use Rattle.cept_parser.specs.Runs.{table_entry, dclut_value, starts_pattern, pattern_unit};
-ghost use Rattle.cept_parser.specs.Runs.{run_unit};
+ghost use Rattle.cept_parser.specs.Runs.{misplacement, bit, colour_part, colour};
+ghost use Rattle.cept_parser.specs.Runs.{table_entry, starts_pattern, run_unit};
 ghost use Rattle.cept_parser.specs.Waits.{begins_in};
 
 use crate::context::{Context, Mode};
@@ -20,7 +19,7 @@ fn misplacement(context: &mut Context, said: &mut Said)
 
 /// A byte of columns 4 to 7, which carries six bits.
 fn has_six_bits(byte: u8) -> bool
-    ensures { result ≡ has_six_bits byte }
+    ensures { result ≡ nat_le 0x40 byte }
 {
     byte >= 0x40
 }
@@ -53,11 +52,11 @@ fn colour(first: u8, second: u8) -> Rgb
     }
 }
 
-/// A value of the DCLUT.
-#[tactic(auto, unfolding(crate::specs::Runs::dclut_value))]
+/// A value of the DCLUT: the five low bits of a byte.
 #[inline(never)]
 fn dclut_value(context: &mut Context, place: u8, byte: u8, said: &mut Said)
-    ensures { record { said = said.new; next = context.new } ≡ dclut_value context.old place byte }
+    ensures { record { said = said.new; next = context.new }
+        ≡ (run_unit (Mode.DclutRun place) context.old byte []).outcome }
 {
     if place < 4 && has_six_bits(byte) {
         *said = Said::Command(Command::Dclut(place, byte % 32));
@@ -93,11 +92,10 @@ fn starts_pattern(context: &Context, code: u8, byte: u8) -> bool
 /// How a plain byte stands to a run of patterns with which a unit begins: one that begins a pattern
 /// is a pattern by itself, and more bytes fit.
 #[inline(never)]
-#[tactic(auto, unfolding(crate::specs::Runs::pattern_unit))]
 fn first_of_pattern(context: &mut Context, code: u8, byte: u8, said: &mut Said) -> Fit
     requires { IsValidForm context.old.form }
     ensures { record { fit = result; said = said.new; context = context.new }
-        ≡ answer (pattern_unit context.old code byte []) false said.old context.old }
+        ≡ answer (run_unit (Mode.DrcsRun code) context.old byte []) false said.old context.old }
 {
     if starts_pattern(context, code, byte) {
         Fit::Longer
@@ -180,7 +178,6 @@ fn table_run(context: &mut Context, place: u8, byte: u8, rest: &[u8], said: &mut
 
 /// How a plain byte and those after it stand to the mode. A pattern begins with none of them, and no
 /// other run can grow, so that what is said is the same whether more bytes may come or not.
-#[tactic(auto, unfolding(crate::specs::Runs::pattern_unit))]
 #[inline(never)]
 pub fn run(context: &mut Context, byte: u8, rest: &[u8], said: &mut Said) -> Fit
     requires rest { 1 ≤ length rest.now }

@@ -1,14 +1,12 @@
-ghost use Rattle.std.specs.Prelude.{◌≡◌, ◌<◌, ◌∷◌, [], Bool, true, if◌then◌else◌};
-ghost use Rattle.cept_parser.specs.Bytes.{is_digit, contains, outcome, complete, optional};
+ghost use Rattle.std.specs.Prelude.{◌≡◌, ◌≢◌, ◌<◌, ◌∷◌, [], Bool, true, if◌then◌else◌};
+ghost use Rattle.cept_parser.specs.Bytes.{is_plain, is_digit, contains, outcome, complete, optional};
 ghost use Rattle.cept_parser.specs.Bytes.{with_options};
 ghost use Rattle.cept_parser.specs.Fit.{answer};
 ghost use Rattle.cept_parser.specs.inside.Fit.{bytes_after};
-ghost use Rattle.cept_parser.specs.Units.{us_position, drcs_parts, drcs_width, drcs_height};
-ghost use Rattle.cept_parser.specs.Units.{drcs_planes, drcs_form, drcs_header, drcs_unit};
-ghost use Rattle.cept_parser.specs.Units.{colour_parts, colour_header, last_place, run_from};
-ghost use Rattle.cept_parser.specs.Units.{colours_from, colour_start, colour_unit};
-ghost use Rattle.cept_parser.specs.Units.{format_parts, format, service_break, service};
-ghost use Rattle.cept_parser.specs.Units.{service_unit, us_unit};
+ghost use Rattle.cept_parser.specs.Units.{us_position, drcs_parts, drcs_form, drcs_header};
+ghost use Rattle.cept_parser.specs.Units.{drcs_unit, colour_parts, colour_header, last_place};
+ghost use Rattle.cept_parser.specs.Units.{run_from, colour_start, colour_unit, format_parts};
+ghost use Rattle.cept_parser.specs.Units.{format, service_break, service_unit, us_unit};
 
 use crate::bytes::{is_digit, is_row, two_digits};
 use crate::context::{ColourKind, Context, Mode};
@@ -53,42 +51,9 @@ fn complete(context: &mut Context, mode: Mode, what: Said, rest: &[u8], said: &m
     }
 }
 
-/// The width that the optional parts of a header tell.
-#[tactic(auto, unfolding(crate::specs::Units::drcs_width))]
-fn drcs_width(bytes: &[u8]) -> u8
-    ensures { result ≡ drcs_width bytes.now }
-{
-    if bytes.contains(&0x3A)
-        || bytes.contains(&0x3B)
-        || bytes.contains(&0x3C)
-        || bytes.contains(&0x3F)
-    {
-        6
-    } else {
-        12
-    }
-}
-
-/// The height.
-#[tactic(auto, unfolding(crate::specs::Units::drcs_height))]
-fn drcs_height(bytes: &[u8]) -> u8
-    ensures { result ≡ drcs_height bytes.now }
-{
-    if bytes.contains(&0x36) || bytes.contains(&0x3A) {
-        12
-    } else if bytes.contains(&0x3C) {
-        5
-    } else if bytes.contains(&0x3F) {
-        6
-    } else {
-        10
-    }
-}
-
-/// The number of planes.
-#[tactic(auto, unfolding(crate::specs::Units::drcs_planes))]
+/// The number of planes that the optional parts of a header tell.
 fn drcs_planes(bytes: &[u8]) -> u8
-    ensures { result ≡ drcs_planes bytes.now }
+    ensures { result ≡ (if contains bytes.now 0x42 then 2 else if contains bytes.now 0x44 then 4 else 1) }
 {
     if bytes.contains(&0x42) {
         2
@@ -100,13 +65,39 @@ fn drcs_planes(bytes: &[u8]) -> u8
 }
 
 /// The form that the optional parts of a header tell.
+#[tactic(auto, unfolding(crate::specs::Units::drcs_form))]
 fn drcs_form(bytes: &[u8]) -> Form
     ensures { result ≡ drcs_form bytes.now }
 {
-    Form {
-        w: drcs_width(bytes),
-        h: drcs_height(bytes),
-        planes: drcs_planes(bytes),
+    let planes = drcs_planes(bytes);
+    if bytes.contains(&0x36) {
+        Form {
+            w: 12,
+            h: 12,
+            planes,
+        }
+    } else if bytes.contains(&0x3A) {
+        Form {
+            w: 6,
+            h: 12,
+            planes,
+        }
+    } else if bytes.contains(&0x3B) {
+        Form {
+            w: 6,
+            h: 10,
+            planes,
+        }
+    } else if bytes.contains(&0x3C) {
+        Form { w: 6, h: 5, planes }
+    } else if bytes.contains(&0x3F) {
+        Form { w: 6, h: 6, planes }
+    } else {
+        Form {
+            w: 12,
+            h: 10,
+            planes,
+        }
     }
 }
 
@@ -210,20 +201,6 @@ fn run_from(kind: ColourKind, place: u8) -> Mode
     }
 }
 
-/// Colours begin at a place.
-#[tactic(auto, unfolding(crate::specs::Units::colours_from))]
-fn colours_from(context: &mut Context, place: u8, said: &mut Said)
-    ensures { record { said = said.new; next = context.new } ≡ colours_from context.old place }
-{
-    if place <= last_place(context.kind) {
-        *said = Said::Command(Command::ColourStart(place));
-        context.mode = run_from(context.kind, place);
-    } else {
-        *said = Said::Refused(Reason::BadParameter);
-        context.mode = Mode::Skip;
-    }
-}
-
 /// Colours from a place on: what stands after 1F 26 and a digit.
 #[tactic(auto, unfolding(crate::specs::Units::colour_start))]
 fn colour_place(context: &mut Context, tens: u8, bytes: &[u8], said: &mut Said) -> Fit
@@ -234,8 +211,10 @@ fn colour_place(context: &mut Context, tens: u8, bytes: &[u8], said: &mut Said) 
     match bytes {
         [] => Fit::Open,
         [ones @ 0x20..=0x7F] => {
-            if is_digit(*ones) {
-                colours_from(context, two_digits(tens, *ones), said);
+            if is_digit(*ones) && two_digits(tens, *ones) <= last_place(context.kind) {
+                let place = two_digits(tens, *ones);
+                *said = Said::Command(Command::ColourStart(place));
+                context.mode = run_from(context.kind, place);
             } else {
                 *said = Said::Refused(Reason::BadParameter);
                 context.mode = Mode::Skip;
@@ -322,10 +301,12 @@ fn service_break(context: &mut Context, bytes: &[u8], said: &mut Said) -> Fit
     }
 }
 
-/// The other units of the service. Full defaults bring back the first context.
-#[tactic(auto, unfolding(crate::specs::Units::service))]
+/// The other units of the service, of one byte. Full defaults bring back the first context.
+#[tactic(auto, unfolding(crate::specs::Units::service_unit))]
 fn other_service(context: &mut Context, byte: u8, said: &mut Said)
-    ensures { record { said = said.new; next = context.new } ≡ service context.old byte }
+    requires plain { is_plain byte ≡ true }
+    requires no_break { byte ≢ 0x40 }
+    ensures { record { said = said.new; next = context.new } ≡ (service_unit context.old (byte ∷ [])).outcome }
 {
     context.mode = Mode::Text;
     match byte {

@@ -29,8 +29,8 @@ use Rattle.cept_profile.specs.Pens.{attribute_of, fast_after, fast_after_code, f
 use Rattle.cept_profile.specs.Pens.{working_after_function}
 use Rattle.cept_profile.specs.Sets.{sets_with}
 use Rattle.cept_profile.specs.Valid.{AllValid}
-use Rattle.cept_profile.specs.Writing.{control_after_copies, working_after_repeat, working_after_read, graphic_result}
-use Rattle.cept_profile.specs.Writing.{columns_of_sign, control_with_result}
+use Rattle.cept_profile.specs.Writing.{control_after_copies, working_after_repeat, working_after_read, graphic_read}
+use Rattle.cept_profile.specs.Writing.{columns_of_sign, control_after_shift}
 use Rattle.cept_profile.proofs.CopiesOfSigns.{control_with-control_after_copies}
 use Rattle.cept_profile.specs.Control.{area_without, control_after_service}
 use Rattle.cept_profile.specs.ControlSettings.{area_back, is_area}
@@ -102,11 +102,11 @@ working_after_repeat-same n s None = refl
 working_after_repeat-same n s (Some g) = ap settings_of (control_with-control_after_copies n s g)
     ∙ control_after_copies-same n s g
 
-read-same : (s : ControlState) (byte : ℕ) (read : Read)
-    → settings_of (control_with s (working_after_read (control_with_result s byte) read)) ≡ settings_of s
-read-same s byte (reads.Accent code) = refl
-read-same s byte (reads.Glyph g) =
-    let t : ControlState = control_with_result s byte in
+read-same : (s : ControlState) (read : Read)
+    → settings_of (control_with s (working_after_read (control_after_shift s) read)) ≡ settings_of s
+read-same s (reads.Accent code) = refl
+read-same s (reads.Glyph g) =
+    let t : ControlState = control_after_shift s in
     working_ahead-same s t (columns_of_sign t) t.working
 
 -- a C1 code sets the class of its attribute
@@ -223,7 +223,7 @@ control_effect-told : (s : ControlState) (command : Command) (earlier : List Com
 control_effect-told s commands.Back earlier known valid ended = working_back-same s s s.working
 control_effect-told s commands.Forward earlier known valid ended = working_ahead-same s s 1 s.working
 control_effect-told s (commands.Designate g set) earlier known valid ended = sets_with-told g set s earlier valid
-control_effect-told s (commands.Graphic byte) earlier known valid ended = read-same s byte (graphic_result s byte).read
+control_effect-told s (commands.Graphic byte) earlier known valid ended = read-same s (graphic_read s byte)
 control_effect-told s (commands.Repeat n) earlier known valid ended = working_after_repeat-same n s s.working.last
 control_effect-told s (commands.C1 n) earlier known valid ended = code-told s.working.c1 n s earlier
 control_effect-told s (commands.FlashMode k) earlier known valid ended = flash-told s.working.c1 k s

@@ -11,7 +11,7 @@ use Rattle.cept_codes.specs.declared.look.Part.{Part}
 use Rattle.cept_profile.specs.Look.{look_of_origin, look_with_part, part_of}
 use Rattle.cept_profile.specs.RowsFromAbove.{covering, look_by, look_from}
 use Rattle.cept_profile.specs.Tiling.{covers_below, covers_right, is_covered_from_left, is_high, is_wide}
-use Rattle.cept_profile.specs.Tiling.{origin_part, part_below, part_by, part_to_the_right, single_part}
+use Rattle.cept_profile.specs.Tiling.{origin_part, part_by, single_part}
 
 -- ---- one of three, by two tests
 
@@ -28,12 +28,12 @@ changed_by_two f false false x y z x' y' z' first second third = third refl refl
 pub upper_part : (u ul ur l : Part) (size : Size) (last : Bool) (c : ℕ) → covers_below u ≡ false
     → (part_by u ul ur l size last c).dy ≡ 0
 upper_part u ul ur l size last c free =
-    cond_both (covers_below u) (part_below u)
-    (cond (is_covered_from_left ul l) (part_to_the_right l)
+    cond_both (covers_below u) (record u { dy = 1 })
+    (cond (is_covered_from_left ul l) (record l { dy = 0; dx = 1 })
     (origin_part (is_wide size && nat_lt c 40 && not (covers_below ur)) (is_high size && not last)))
     (λ p. p.dy ≡ 0)
     (λ covered. absurd (true≢false (sym covered ∙ free)))
-    (λ _. cond_both (is_covered_from_left ul l) (part_to_the_right l)
+    (λ _. cond_both (is_covered_from_left ul l) (record l { dy = 0; dx = 1 })
     (origin_part (is_wide size && nat_lt c 40 && not (covers_below ur)) (is_high size && not last))
     (λ p. p.dy ≡ 0) (λ _. refl) (λ _. refl))
 
@@ -45,9 +45,10 @@ covers_nothing-by p u ul ur l size last c same single free upper =
     let wide : Bool = is_wide size && nat_lt c 40 && not (covers_below ur) in
     let origin : Part = origin_part wide (is_high size && not last) in
     ap (λ q. covers_below q) same
-    ∙ cond_both (covers_below u) (part_below u) (cond (is_covered_from_left ul l) (part_to_the_right l) origin)
+    ∙ cond_both (covers_below u) (record u { dy = 1 })
+    (cond (is_covered_from_left ul l) (record l { dy = 0; dx = 1 }) origin)
     (λ q. covers_below q ≡ false) (λ _. refl)
-    (λ _. cond_both (is_covered_from_left ul l) (part_to_the_right l) origin (λ q. covers_below q ≡ false)
+    (λ _. cond_both (is_covered_from_left ul l) (record l { dy = 0; dx = 1 }) origin (λ q. covers_below q ≡ false)
     (λ covered. subst (λ (dy : ℕ). (dy == 0 && l.h == 2) ≡ false)
     (upper (not-true (covers_below ul) (and_parts (not (covers_below ul)) (covers_right l) covered).0)) free)
     (λ _. ap (λ s. covers_below (origin_part wide (is_high s && not last))) single))
@@ -60,27 +61,28 @@ single_by p u ul ur l size last c same single free left =
     let wide : Bool = is_wide size && nat_lt c 40 && not (covers_below ur) in
     let origin : Part = origin_part wide (is_high size && not last) in
     same
-    ∙ cond-false (covers_below u) (part_below u) (cond (is_covered_from_left ul l) (part_to_the_right l) origin) free
-    ∙ cond-false (is_covered_from_left ul l) (part_to_the_right l) origin
+    ∙ cond-false (covers_below u) (record u { dy = 1 })
+    (cond (is_covered_from_left ul l) (record l { dy = 0; dx = 1 }) origin) free
+    ∙ cond-false (is_covered_from_left ul l) (record l { dy = 0; dx = 1 }) origin
     (and_right (not (covers_below ul)) (covers_right l) no_right)
     ∙ ap (λ s. origin_part (is_wide s && nat_lt c 40 && not (covers_below ur)) (is_high s && not last)) single
 
 -- ---- looks by their neighbours
 
 below-origin : (own : ℕ → ℕ → Look) (u : Part) (r c : ℕ) → u.dy ≡ 0
-    → look_of_origin own r c (part_below u) ≡ look_with_part (part_below u) (look_of_origin own (r - 1) c u)
+    → look_of_origin own r c (record u { dy = 1 }) ≡ look_with_part (record u { dy = 1 }) (look_of_origin own (r - 1) c u)
 below-origin own u r c upper =
     let same : r - 1 ≡ r - 1 - u.dy = omega (arith, upper) in
-    ap (λ (q : ℕ). look_with_part (part_below u) (own q (c - u.dx))) same
+    ap (λ (q : ℕ). look_with_part (record u { dy = 1 }) (own q (c - u.dx))) same
 
 right-origin : (own : ℕ → ℕ → Look) (l : Part) (r c : ℕ) → l.dy ≡ 0 → l.dx ≡ 0
-    → look_of_origin own r c (part_to_the_right l)
-    ≡ look_with_part (part_to_the_right l) (look_of_origin own r (c - 1) l)
+    → look_of_origin own r c (record l { dy = 0; dx = 1 })
+    ≡ look_with_part (record l { dy = 0; dx = 1 }) (look_of_origin own r (c - 1) l)
 right-origin own l r c upper left =
     let same_row : r - 0 ≡ r - l.dy = omega (arith, upper) in
     let same_column : c - 1 ≡ c - 1 - l.dx = omega (arith, left) in
-    ap (λ (q : ℕ). look_with_part (part_to_the_right l) (own q (c - 1))) same_row
-    ∙ ap (λ (d : ℕ). look_with_part (part_to_the_right l) (own (r - l.dy) d)) same_column
+    ap (λ (q : ℕ). look_with_part (record l { dy = 0; dx = 1 }) (own q (c - 1))) same_row
+    ∙ ap (λ (d : ℕ). look_with_part (record l { dy = 0; dx = 1 }) (own (r - l.dy) d)) same_column
 
 pub origin-itself : (own : ℕ → ℕ → Look) (wide high : Bool) (r c : ℕ)
     → look_of_origin own r c (origin_part wide high) ≡ look_with_part (origin_part wide high) (own r c)
@@ -102,9 +104,9 @@ look_of_origin-by own u ul ur l p size last r c same upper =
     let high : Bool = is_high size && not last in
     ap (look_of_origin own r c) same
     ∙ changed_by_two (look_of_origin own r c) (covers_below u) (is_covered_from_left ul l)
-    (part_below u) (part_to_the_right l) (origin_part wide high)
-    (look_with_part (part_below u) (look_of_origin own (r - 1) c u))
-    (look_with_part (part_to_the_right l) (look_of_origin own r (c - 1) l))
+    (record u { dy = 1 }) (record l { dy = 0; dx = 1 }) (origin_part wide high)
+    (look_with_part (record u { dy = 1 }) (look_of_origin own (r - 1) c u))
+    (look_with_part (record l { dy = 0; dx = 1 }) (look_of_origin own r (c - 1) l))
     (look_with_part (origin_part wide high) (own r c))
     (λ covers. below-origin own u r c (eqb-true u.dy 0 (and_parts (u.dy == 0) (u.h == 2) covers).0))
     (λ free covers.
@@ -126,14 +128,14 @@ is_free (Some l) = false
 
 -- the look of a place by what covers the places below the looks above it, and by what covers it from the left
 abbrev by_what_covers : Option Look → Option Look → Option Look → Option Look → Look → Size → Bool → ℕ → Look
-by_what_covers (Some a) al ar l own size last c = look_with_part (part_below (part_of a)) a
-by_what_covers None None ar (Some l) own size last c = look_with_part (part_to_the_right (part_of l)) l
+by_what_covers (Some a) al ar l own size last c = look_with_part (record (part_of a) { dy = 1 }) a
+by_what_covers None None ar (Some l) own size last c = look_with_part (record (part_of l) { dy = 0; dx = 1 }) l
 by_what_covers None _ ar _ own size last c =
     look_with_part (origin_part (is_wide size && nat_lt c 40 && is_free ar) (is_high size && not last)) own
 
 by_tests : (ba bal bar bl : Bool) (a al ar l own : Look) (size : Size) (last : Bool) (c : ℕ)
-    → cond ba (look_with_part (part_below (part_of a)) a)
-    (cond (not bal && bl) (look_with_part (part_to_the_right (part_of l)) l)
+    → cond ba (look_with_part (record (part_of a) { dy = 1 }) a)
+    (cond (not bal && bl) (look_with_part (record (part_of l) { dy = 0; dx = 1 }) l)
     (look_with_part (origin_part (is_wide size && nat_lt c 40 && not bar) (is_high size && not last)) own))
     ≡ by_what_covers (cond ba (Some a) None) (cond bal (Some al) None) (cond bar (Some ar) None) (cond bl (Some l) None)
     own size last c
@@ -167,19 +169,19 @@ look_by-same a al ar l own a' al' ar' l' own' size size' last c above beside ove
 -- ---- the three cases of a look
 
 pub look_by-above : (a al ar l own : Look) (size : Size) (last : Bool) (c : ℕ) → covers_below (part_of a) ≡ true
-    → look_by a al ar l own size last c ≡ look_with_part (part_below (part_of a)) a
+    → look_by a al ar l own size last c ≡ look_with_part (record (part_of a) { dy = 1 }) a
 look_by-above a al ar l own size last c covered =
-    ap (λ b. cond b (look_with_part (part_below (part_of a)) a)
-    (cond (is_covered_from_left (part_of al) (part_of l)) (look_with_part (part_to_the_right (part_of l)) l)
+    ap (λ b. cond b (look_with_part (record (part_of a) { dy = 1 }) a)
+    (cond (is_covered_from_left (part_of al) (part_of l)) (look_with_part (record (part_of l) { dy = 0; dx = 1 }) l)
     (look_with_part (origin_part (is_wide size && nat_lt c 40 && not (covers_below (part_of ar)))
     (is_high size && not last)) own))) covered
 
 pub look_by-left : (a al ar l own : Look) (size : Size) (last : Bool) (c : ℕ) → covers_below (part_of a) ≡ false
     → is_covered_from_left (part_of al) (part_of l) ≡ true
-    → look_by a al ar l own size last c ≡ look_with_part (part_to_the_right (part_of l)) l
+    → look_by a al ar l own size last c ≡ look_with_part (record (part_of l) { dy = 0; dx = 1 }) l
 look_by-left a al ar l own size last c free covered i =
-    cond (free i) (look_with_part (part_below (part_of a)) a)
-    (cond (covered i) (look_with_part (part_to_the_right (part_of l)) l)
+    cond (free i) (look_with_part (record (part_of a) { dy = 1 }) a)
+    (cond (covered i) (look_with_part (record (part_of l) { dy = 0; dx = 1 }) l)
     (look_with_part (origin_part (is_wide size && nat_lt c 40 && not (covers_below (part_of ar)))
     (is_high size && not last)) own))
 
@@ -191,8 +193,8 @@ look_by-itself a al ar l own seen p size last c same part free whole =
     let origin : Part =
     origin_part (is_wide size && nat_lt c 40 && not (covers_below (part_of ar))) (is_high size && not last) in
     let here : seen ≡ look_with_part origin own =
-    same ∙ (λ i. cond (free i) (look_with_part (part_below (part_of a)) a)
-    (cond (whole i) (look_with_part (part_to_the_right (part_of l)) l) (look_with_part origin own))) in
+    same ∙ (λ i. cond (free i) (look_with_part (record (part_of a) { dy = 1 }) a)
+    (cond (whole i) (look_with_part (record (part_of l) { dy = 0; dx = 1 }) l) (look_with_part origin own))) in
     here ∙ ap (λ q. look_with_part q own) (sym (ap (λ m. part_of m) here) ∙ part)
 
 -- ---- a row

@@ -19,8 +19,8 @@ use Rattle.cept_profile.specs.RowsFromAbove.{covering, is_covered_otherwise, is_
 use Rattle.cept_profile.specs.RowsFromAbove.{looks_in}
 use Rattle.cept_profile.specs.RowsFromAbove.{row_from_above}
 use Rattle.cept_profile.specs.State.{Core}
-use Rattle.cept_profile.specs.Tiling.{IsTiled, column_entry, covers_below, is_covered_from_left, part_at, part_below}
-use Rattle.cept_profile.specs.Tiling.{part_to_the_right, single_part}
+use Rattle.cept_profile.specs.Tiling.{IsTiled, column_entry, covers_below, is_covered_from_left, part_at}
+use Rattle.cept_profile.specs.Tiling.{single_part}
 use Rattle.cept_profile.proofs.ColumnEntries.{column_entry-default, column_entry-map, length-row_in, no_index}
 use Rattle.cept_profile.proofs.ColumnEntries.{none_passes}
 use Rattle.cept_profile.proofs.ColumnEntries.{same_columns}
@@ -80,7 +80,7 @@ look-by k r c on =
 pub look-above : (k : Core) (r c : ℕ) → OnScreen r c
     → IsTrue (covers_below (part_of (look_seen (looks_of k) (r - 1) c)))
     → look k r c
-    ≡ look_with_part (part_below (part_of (look_seen (looks_of k) (r - 1) c))) (look_seen (looks_of k) (r - 1) c)
+    ≡ look_with_part (record (part_of (look_seen (looks_of k) (r - 1) c)) { dy = 1 }) (look_seen (looks_of k) (r - 1) c)
 look-above k r c on covered =
     look-by k r c on
     ∙ look_by-above (look_seen (looks_of k) (r - 1) c) (look_seen (looks_of k) (r - 1) (c - 1))
@@ -92,7 +92,7 @@ pub look-left : (k : Core) (r c : ℕ) → OnScreen r c
     → IsTrue (is_covered_from_left (part_of (look_seen (looks_of k) (r - 1) (c - 1)))
     (part_of (look_seen (looks_of k) r (c - 1))))
     → look k r c
-    ≡ look_with_part (part_to_the_right (part_of (look_seen (looks_of k) r (c - 1))))
+    ≡ look_with_part (record (part_of (look_seen (looks_of k) r (c - 1))) { dy = 0; dx = 1 })
     (look_seen (looks_of k) r (c - 1))
 look-left k r c on free covered =
     look-by k r c on

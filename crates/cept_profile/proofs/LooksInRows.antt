@@ -1,5 +1,6 @@
 -- Looks in rows: cells to the right count for nothing, and in a row without markers a cell looks as it does by itself.
 use Rattle.std.proofs.Common.{◌≡◌, ℕ, ◌≤◌, false, Option, Some, None, refl, ap, ◌∙◌, arith}
+use Rattle.std.specs.Prelude.{option_and_then}
 use Rattle.std.proofs.lemmas.Bool.{true≢false}
 use Rattle.cept_codes.specs.declared.attribute.Pen.{Pen}
 use Rattle.cept_codes.specs.declared.attribute.Size.{Size}
@@ -16,7 +17,7 @@ use Rattle.cept_profile.specs.Look.{look_of_origin, looks_of, own_look, own_size
 use Rattle.cept_profile.specs.Look.{size_in_row}
 use Rattle.cept_profile.specs.PageParts.{paint_in}
 use Rattle.cept_profile.specs.Serial.{acts, column_in_force, held_sign, is_marker, own_attributes}
-use Rattle.cept_profile.specs.Serial.{own_attributes_of, said, serial_attributes, size_said, value_found}
+use Rattle.cept_profile.specs.Serial.{own_attributes_of, said, serial_attributes, size_said}
 use Rattle.cept_profile.specs.State.{Core}
 use Rattle.cept_profile.proofs.MarkersInForce.{IsGreatest, column_in_force-greatest, held_sign-alike}
 use Rattle.cept_profile.proofs.MarkersInForce.{serial_attributes-alike, serial_attributes-unmarked}
@@ -98,7 +99,8 @@ single-said w plain = refl
 -- so does what is found among such
 single-found : (row : ℕ → What) (c : ℕ) (found : Option ℕ) → ((d : ℕ) → 1 ≤ d → d ≤ c
     → sets_double_size (row d) ≡ false)
-    → IsGreatest (acts row (said size_said) c) c found → is_double_set (value_found (λ d. size_said (row d)) found) ≡ false
+    → IsGreatest (acts row (said size_said) c) c found
+    → is_double_set (option_and_then (λ d. size_said (row d)) found) ≡ false
 single-found row c None plain greatest = refl
 single-found row c (Some d) plain greatest = single-said (row d) (plain d greatest.0 greatest.1)
 
@@ -108,7 +110,7 @@ serial-single : (row : ℕ → What) (pen screen : Pen) (c : ℕ) → ((d : ℕ)
     → (serial_attributes row pen screen c).size ≡ sizes.Normal
 unfolding serial_attributes
 serial-single row pen screen c plain in_row on_screen =
-    single-first (value_found (λ d. size_said (row d)) (column_in_force row (said size_said) c)) pen.size screen.size
+    single-first (option_and_then (λ d. size_said (row d)) (column_in_force row (said size_said) c)) pen.size screen.size
     (single-found row c (column_in_force row (said size_said) c) plain (column_in_force-greatest row (said size_said) c)) in_row on_screen
 
 own-single : (row : ℕ → What) (pen screen : Pen) (c : ℕ) (w : What) → sets_double_size w ≡ false

@@ -2,7 +2,7 @@
 use Rattle.std.proofs.Common.{option_to_list, map}
 use Rattle.std.proofs.Common.{◌≡◌, ℕ, ◌+◌, ◌*◌, ◌≤◌, zero, suc, Bool, true, false, cond, leb, Option, Some, None}
 use Rattle.std.proofs.Common.{List, ◌++◌, length, refl, subst, inl, inr, arith}
-use Rattle.std.proofs.Common.{IfSome}
+use Rattle.std.proofs.Common.{IfSome, unwrap_or}
 use Rattle.std.specs.List.{count_by}
 use Rattle.std.proofs.lemmas.Bool.{leb-false}
 use Rattle.std.proofs.lemmas.List.Sums.{count_by-le-length, sum_by-append}
@@ -31,8 +31,8 @@ use Rattle.cept_codes.specs.declared.attribute.Attr.{Attr}
 use Rattle.cept_profile.specs.Strokes.{strokes_of, strokes_when}
 use Rattle.cept_profile.specs.Tiling.{columns_of_size}
 use Rattle.cept_profile.specs.Valid.{IsValidControl, IsValidWorking}
-use Rattle.cept_profile.specs.Writing.{columns_of_set, columns_of_sign, columns_under, control_after_copies}
-use Rattle.cept_profile.specs.Writing.{graphic_result, strokes_of_copies, strokes_of_read, strokes_of_repeat, strokes_of_sign}
+use Rattle.cept_profile.specs.Writing.{columns_of_sign, columns_under, control_after_copies}
+use Rattle.cept_profile.specs.Writing.{graphic_read, strokes_of_copies, strokes_of_read, strokes_of_repeat, strokes_of_sign}
 use Rattle.cept_profile.proofs.MotionStrokes.{length-above_strokes, length-back_strokes, length-below_strokes}
 use Rattle.cept_profile.proofs.MotionStrokes.{length-on_strokes, length-strokes_of_scroll}
 use Rattle.cept_profile.proofs.ValidControl.{IsValidControl-control_after_copies, IsValidControl-state_for_effect}
@@ -56,12 +56,8 @@ columns_of_size-few sizes.High = omega arith
 columns_of_size-few sizes.Wide = omega arith
 columns_of_size-few sizes.Both = omega arith
 
-columns_of_set-few : (size : Option Size) → columns_of_set size ≤ 2
-columns_of_set-few None = omega arith
-columns_of_set-few (Some size) = columns_of_size-few size
-
 columns_under-few : (c1 : C1Set) (w : Working) → IsValidWorking w → columns_under c1 w ≤ 2
-columns_under-few c1sets.Parallel w is = columns_of_set-few w.pen.size
+columns_under-few c1sets.Parallel w is = columns_of_size-few (unwrap_or w.pen.size sizes.Normal)
 columns_under-few c1sets.Serial w is = elim is.step [ inl one ↦ omega (arith, one) | inr two ↦ omega (arith, two) ]
 
 -- a move costs the columns that are left behind: going on takes forty columns for it
@@ -137,7 +133,7 @@ moves-strokes_when s commands.ScrollUp is valid =
 moves-strokes_when s commands.ScrollDown is valid =
     moves-few _ 1 (length-strokes_of_scroll s ways.Down (area_in_force s)) (omega arith)
 moves-strokes_when s (commands.Graphic byte) is valid =
-    moves-few _ 2 (length-read s (graphic_result s byte).read) (omega arith)
+    moves-few _ 2 (length-read s (graphic_read s byte)) (omega arith)
 moves-strokes_when s (commands.Repeat n) is valid = moves-repeat n s s.working.last is refl valid
 moves-strokes_when s (commands.C1 n) is valid =
     moves-few _ 2 (length-function s s.working.c1 (marker_of s.working.table n)) (omega arith)

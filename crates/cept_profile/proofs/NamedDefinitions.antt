@@ -1,7 +1,7 @@
 -- What a place is drawn with: where the entries and the pattern that it names stay, it looks as before.
 use Rattle.std.proofs.Common.{◌≡◌, ℕ, ◌+◌, ◌≤◌, ◌<◌, cond, not, ◌==◌, ◌&&◌, inl, inr, Bool, true, false, List, Option}
 use Rattle.std.proofs.Common.{Some, None, refl, sym, ◌∙◌, ap, arith}
-use Rattle.std.specs.Prelude.{nat_le, nat_lt}
+use Rattle.std.specs.Prelude.{nat_le, nat_lt, option_and_then}
 use Rattle.std.specs.List.{list_any, range_with_len}
 use Rattle.std.proofs.lemmas.Bool.{cases_Bool, cond-false, cond-true, true≢false}
 use Rattle.std.proofs.lemmas.Bool.Decides.{nat_tests}
@@ -18,12 +18,12 @@ use Rattle.cept_codes.specs.declared.look.Shape.TheVariants as shapes
 use Rattle.cept_codes.proofs.Laws.{same_indexed}
 use Rattle.cept_profile.specs.Colours.{back_paint, fore_paint, paint_over}
 use Rattle.cept_profile.specs.Definitions.{Definitions, inks_of, inks_with}
-use Rattle.cept_profile.specs.Look.{look_with, shape_by_pattern, shape_in, shape_in_set, shape_of_sign}
+use Rattle.cept_profile.specs.Look.{look_with, shape_in, shape_in_set, shape_of_sign}
 use Rattle.cept_profile.specs.Names.{code_in_set, code_named, is_code, is_ink_of, pattern_shown, shows_ink_of}
 use Rattle.cept_profile.specs.Names.{shows_two_planes}
 use Rattle.cept_profile.specs.PageParts.{dclut_in, paint_in, pattern_in}
 use Rattle.cept_profile.specs.Serial.{held_sign, is_holding, is_marker, is_mosaic, kept_sign, mosaic_of}
-use Rattle.cept_profile.specs.Serial.{is_sized_since, nearest_column, value_found}
+use Rattle.cept_profile.specs.Serial.{is_sized_since, nearest_column}
 use Rattle.cept_profile.proofs.ColumnEntries.{no_index}
 
 -- a test that one of n numbers passes is passed by some
@@ -109,22 +109,23 @@ inks-shown before after f what shape pattern kept shown =
 
 -- ---- shapes
 
-shape_by_pattern-kept : (before after : Definitions) (g : Glyph) (now was : Option Pattern) → now ≡ was
-    → ((pattern : Pattern) → pattern_shown (shape_by_pattern after g now) ≡ Some pattern
+shape_of_downloaded-kept : (before after : Definitions) (g : Glyph) (now was : Option Pattern) → now ≡ was
+    → ((pattern : Pattern) → pattern_shown (shape_in_set after g sets.D now) ≡ Some pattern
     → inks_of after pattern.planes ≡ inks_of before pattern.planes)
-    → shape_by_pattern after g now ≡ shape_by_pattern before g was
-shape_by_pattern-kept before after g None was same inks = ap (shape_by_pattern before g) same
-shape_by_pattern-kept before after g (Some pattern) was same inks =
-    ap (shapes.Drcs pattern) (inks pattern refl) ∙ ap (shape_by_pattern before g) same
+    → shape_in_set after g sets.D now ≡ shape_in_set before g sets.D was
+shape_of_downloaded-kept before after g None was same inks = ap (shape_in_set before g sets.D) same
+shape_of_downloaded-kept before after g (Some pattern) was same inks =
+    ap (shapes.Drcs pattern) (inks pattern refl) ∙ ap (shape_in_set before g sets.D) same
 
 shape_in_set-kept : (before after : Definitions) (g : Glyph) (set : SetId)
     → ((d : ℕ) → is_code (code_in_set set g.code) d ≡ true
     → pattern_in after.patterns d ≡ pattern_in before.patterns d)
-    → ((pattern : Pattern) → pattern_shown (shape_in_set after g set) ≡ Some pattern
+    → ((pattern : Pattern) → pattern_shown (shape_in_set after g set (pattern_in after.patterns g.code)) ≡ Some pattern
     → inks_of after pattern.planes ≡ inks_of before pattern.planes)
-    → shape_in_set after g set ≡ shape_in_set before g set
+    → shape_in_set after g set (pattern_in after.patterns g.code)
+    ≡ shape_in_set before g set (pattern_in before.patterns g.code)
 shape_in_set-kept before after g sets.D code inks =
-    shape_by_pattern-kept before after g (pattern_in after.patterns g.code) (pattern_in before.patterns g.code)
+    shape_of_downloaded-kept before after g (pattern_in after.patterns g.code) (pattern_in before.patterns g.code)
     (code g.code (grind (arith, nat_tests))) inks
 shape_in_set-kept before after g sets.P code inks = refl
 shape_in_set-kept before after g sets.S code inks = refl
@@ -148,8 +149,9 @@ shape_of_sign-kept : (before after : Definitions) (g : Glyph)
     → inks_of after pattern.planes ≡ inks_of before pattern.planes)
     → shape_of_sign after g ≡ shape_of_sign before g
 shape_of_sign-kept before after g code inks =
-    shape_unless_space before after g (g.code == 0x20 && g.accent == 0) (shape_in_set after g g.set)
-    (shape_in_set before g g.set) (shape_in_set-kept before after g g.set code) inks
+    shape_unless_space before after g (g.code == 0x20 && g.accent == 0)
+    (shape_in_set after g g.set (pattern_in after.patterns g.code))
+    (shape_in_set before g g.set (pattern_in before.patterns g.code)) (shape_in_set-kept before after g g.set code) inks
 
 -- a mosaic is of no downloaded set
 pub mosaic-no_code : (set : SetId) (code d : ℕ) → is_mosaic set ≡ true → is_code (code_in_set set code) d ≡ false
@@ -187,7 +189,7 @@ mosaic_of-mosaic _ g is = absurd (cc)
 
 -- what is found is of a mosaic set, where all that may be found are
 found-mosaic : (says : ℕ → Option Glyph) (found : Option ℕ) (g : Glyph)
-    → ((d : ℕ) (h : Glyph) → says d ≡ Some h → is_mosaic h.set ≡ true) → value_found says found ≡ Some g
+    → ((d : ℕ) (h : Glyph) → says d ≡ Some h → is_mosaic h.set ≡ true) → option_and_then says found ≡ Some g
     → is_mosaic g.set ≡ true
 found-mosaic says None g all is = absurd (cc)
 found-mosaic says (Some d) g all is = all d g is

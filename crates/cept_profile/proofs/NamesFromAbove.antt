@@ -13,7 +13,7 @@ use Rattle.cept_profile.specs.Names.{own_attributes_in}
 use Rattle.cept_profile.specs.NamesFromAbove.{names_by, names_from_above, names_in_row, own_names}
 use Rattle.cept_profile.specs.State.{Core}
 use Rattle.cept_profile.specs.Tiling.{IsTiledAt, covers_below, covers_right, is_covered_from_left, part_at}
-use Rattle.cept_profile.specs.Tiling.{part_to_the_right, single_part}
+use Rattle.cept_profile.specs.Tiling.{single_part}
 use Rattle.cept_profile.proofs.ColumnEntries.{column_entry-default}
 use Rattle.cept_profile.proofs.LooksFromAbove.{tiled_parts}
 use Rattle.cept_profile.proofs.LooksOfOrigins.{upper_at}
@@ -68,7 +68,7 @@ free_above k r c on upper =
 
 -- a right part stands beside the upper left one of its sign
 record IsBeside (p l : Part) : Type 0 where
-  pub right : p ≡ part_to_the_right l
+  pub right : p ≡ record l { dy = 0; dx = 1 }
   pub upper : l.dy ≡ 0
   pub first : l.dx ≡ 0
   pub wide : l.w ≡ 2

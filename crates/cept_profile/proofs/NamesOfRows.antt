@@ -21,7 +21,7 @@ use Rattle.cept_codes.specs.Cell.{IsValidWhat}
 use Rattle.cept_codes.specs.Place.{OnScreen}
 use Rattle.cept_codes.specs.Stroke.{IsRow}
 use Rattle.cept_profile.specs.Definitions.{Definitions}
-use Rattle.cept_profile.specs.Look.{contents_of_row, look, look_in_row, looks_of, own_look, parts_of, shape_by_pattern}
+use Rattle.cept_profile.specs.Look.{contents_of_row, look, look_in_row, looks_of, own_look, parts_of}
 use Rattle.cept_profile.specs.Look.{shape_in, shape_in_set, shape_of_sign}
 use Rattle.cept_profile.specs.MovedRows.{row_before}
 use Rattle.cept_profile.specs.Names.{Names, code_in_set, code_named, is_code, names_at, names_dclut}
@@ -65,14 +65,15 @@ same_tests from n p s same =
 -- ---- the pattern that is shown
 
 shown_by : (defined : Definitions) (g : Glyph) (pattern : Option Pattern)
-    → pattern_shown (shape_by_pattern defined g pattern) ≡ pattern
+    → pattern_shown (shape_in_set defined g sets.D pattern) ≡ pattern
 shown_by defined g None = refl
 shown_by defined g (Some pattern) = refl
 
 -- it stays, where the pattern of the code does
 shown_in_set : (before after : Definitions) (g : Glyph) (set : SetId)
     → ((d : ℕ) → is_code (code_in_set set g.code) d ≡ true → pattern_in after.patterns d ≡ pattern_in before.patterns d)
-    → pattern_shown (shape_in_set after g set) ≡ pattern_shown (shape_in_set before g set)
+    → pattern_shown (shape_in_set after g set (pattern_in after.patterns g.code))
+    ≡ pattern_shown (shape_in_set before g set (pattern_in before.patterns g.code))
 shown_in_set before after g sets.D code =
     shown_by after g (pattern_in after.patterns g.code) ∙ code g.code (grind (arith, nat_tests))
     ∙ sym (shown_by before g (pattern_in before.patterns g.code))
@@ -91,7 +92,8 @@ shown_of_sign : (before after : Definitions) (g : Glyph)
     → pattern_in after.patterns d ≡ pattern_in before.patterns d)
     → pattern_shown (shape_of_sign after g) ≡ pattern_shown (shape_of_sign before g)
 shown_of_sign before after g code =
-    shown_unless_space (g.code == 0x20 && g.accent == 0) (shape_in_set after g g.set) (shape_in_set before g g.set)
+    shown_unless_space (g.code == 0x20 && g.accent == 0) (shape_in_set after g g.set (pattern_in after.patterns g.code))
+    (shape_in_set before g g.set (pattern_in before.patterns g.code))
     (shown_in_set before after g g.set code)
 
 shown_in : (before after : Definitions) (what : What) (held : Option Glyph)

@@ -1,6 +1,8 @@
 -- One more cell by looking back: what counts after it follows from what counts before it.
 use Rattle.std.proofs.Common.{◌≡◌, ◌==◌, eqb, ℕ, ◌≤◌, ◌<◌, zero, suc, Bool, true, false, not, ◌&&◌, ◌||◌}
 use Rattle.std.proofs.Common.{cond, nat_lt, Option, Some, None, refl, sym, ◌∙◌, ap, arith}
+use Rattle.std.specs.Option.{option_map_or}
+use Rattle.std.specs.Prelude.{option_and_then}
 use Rattle.std.proofs.lemmas.Bool.{lt-ltb, le-ltb, cond_both}
 use Rattle.std.proofs.lemmas.Bool.Decides.{nat_tests}
 use Rattle.cept_codes.specs.declared.attribute.Flash.TheVariants as flashes
@@ -12,8 +14,8 @@ use Rattle.cept_codes.specs.declared.cell.What.TheVariants as whats
 use Rattle.cept_codes.specs.Attribute.{unset_pen}
 use Rattle.cept_profile.specs.Attributes.{cascade, first_value}
 use Rattle.cept_profile.specs.Serial.{said, is_marker, acts_there, nearest_column, column_in_force, fore_at}
-use Rattle.cept_profile.specs.Serial.{pen_of, value_found, serial_attributes, is_holding, kept_sign, held_sign}
-use Rattle.cept_profile.specs.Serial.{lies_after, mosaic_of, fore_said, back_said, hold_said, flash_said, conceal_said, lined_said, boxed_said, size_said}
+use Rattle.cept_profile.specs.Serial.{pen_of, serial_attributes, is_holding, kept_sign, held_sign}
+use Rattle.cept_profile.specs.Serial.{mosaic_of, fore_said, back_said, hold_said, flash_said, conceal_said, lined_said, boxed_said, size_said}
 use Rattle.cept_profile.specs.Influence.{Influence, nearest_marker, influence, influence_after}
 use Rattle.cept_profile.specs.Influence.{influence_in, held_sign_in}
 
@@ -52,8 +54,10 @@ abbrev found : (ℕ → What) → Bool → ℕ → (What → Bool) → Option �
 found row counts c class = cond (class (row (suc c)) && counts) (Some (suc c)) (nearest_marker row c class)
 
 fore_here : (row : ℕ → What) (pen screen : Pen) (c : ℕ) (w : What) → row (suc c) ≡ w
-    → first_value (value_found (λ d. fore_said (row d)) (found row (acts_there w) c (said fore_said))) pen.fore screen.fore 7
-    ≡ first_value (value_found (λ d. fore_said (row d)) (nearest_marker row c (said fore_said))) pen.fore screen.fore 7
+    → first_value (option_and_then (λ d. fore_said (row d)) (found row (acts_there w) c (said fore_said)))
+    pen.fore screen.fore 7
+    ≡ first_value (option_and_then (λ d. fore_said (row d)) (nearest_marker row c (said fore_said)))
+    pen.fore screen.fore 7
 fore_here row pen screen c (whats.Marker (markers.Alpha x)) e = rw e refl
 fore_here row pen screen c (whats.Marker (markers.Mosaic x)) e = rw e refl
 fore_here row pen screen c (whats.Marker m) e = rw e refl
@@ -117,19 +121,19 @@ holding_by row pen screen c w e = rw (column_in_force-suc row (said hold_said) c
 -- ---- the kept sign
 
 -- no column that is found lies past the last that is asked
-nothing_past : (p : ℕ → Bool) (c d : ℕ) → c ≤ d → lies_after d (nearest_column p c) ≡ false
+nothing_past : (p : ℕ → Bool) (c d : ℕ) → c ≤ d → option_map_or (nat_lt d) (nearest_column p c) false ≡ false
 nothing_past p zero d h = refl
 nothing_past p (suc c) d h =
-    cond_both (p (suc c)) (Some (suc c)) (nearest_column p c) (λ o. lies_after d o ≡ false)
+    cond_both (p (suc c)) (Some (suc c)) (nearest_column p c) (λ o. option_map_or (nat_lt d) o false ≡ false)
     (λ e. le-ltb d (suc c) h)
     (λ e. nothing_past p c d (omega arith))
 
 -- what says nothing up to a column says nothing in the nearest one
 nothing_said : {X : Type 0} (p : ℕ → Bool) (says : ℕ → Option X) (c : ℕ) → ((d : ℕ) → d ≤ c → says d ≡ None)
-    → value_found says (nearest_column p c) ≡ None
+    → option_and_then says (nearest_column p c) ≡ None
 nothing_said p says zero h = refl
 nothing_said p says (suc c) h =
-    cond_both (p (suc c)) (Some (suc c)) (nearest_column p c) (λ o. value_found says o ≡ None)
+    cond_both (p (suc c)) (Some (suc c)) (nearest_column p c) (λ o. option_and_then says o ≡ None)
     (λ e. h (suc c) (omega arith))
     (λ e. nothing_said p says c (λ d below. h d (omega arith)))
 

@@ -23,7 +23,7 @@ use Rattle.cept_profile.specs.RowsFromAbove.{covering, look_seen}
 use Rattle.cept_profile.specs.Serial.{own_attributes, own_attributes_of, serial_attributes}
 use Rattle.cept_profile.specs.State.{Core}
 use Rattle.cept_profile.specs.Tiling.{covers_below, covers_right, is_high, is_wide, origin_part}
-use Rattle.cept_profile.specs.Tiling.{part_at, part_below, part_by, part_to_the_right, single_part}
+use Rattle.cept_profile.specs.Tiling.{part_at, part_by, single_part}
 use Rattle.cept_profile.proofs.ColumnEntries.{entry_off, off_or_on}
 use Rattle.cept_profile.proofs.LooksFromAbove.{look-seen, origin-on_screen, part_of-look, tiled_parts}
 use Rattle.cept_profile.proofs.LooksOfOrigins.{part_at-by, upper_at}
@@ -67,14 +67,14 @@ cover p = cond (covers_below p) (Some p) None
 
 -- the part of a place by what covers it and its neighbours from above, and by the part left of it
 by_covers : Option Part → Option Part → Option Part → Part → Size → Bool → ℕ → Part
-by_covers (Some a) beside over left size last c = part_below a
+by_covers (Some a) beside over left size last c = record a { dy = 1 }
 by_covers None beside over left size last c =
-    cond (is_none beside && covers_right left) (part_to_the_right left)
+    cond (is_none beside && covers_right left) (record left { dy = 0; dx = 1 })
     (origin_part (is_wide size && nat_lt c 40 && is_none over) (is_high size && not last))
 
 by_tests : (ba bl br : Bool) (a al ar left : Part) (size : Size) (last : Bool) (c : ℕ)
-    → cond ba (part_below a)
-    (cond (not bl && covers_right left) (part_to_the_right left)
+    → cond ba (record a { dy = 1 })
+    (cond (not bl && covers_right left) (record left { dy = 0; dx = 1 })
     (origin_part (is_wide size && nat_lt c 40 && not br) (is_high size && not last)))
     ≡ by_covers (cond ba (Some a) None) (cond bl (Some al) None) (cond br (Some ar) None) left size last c
 unfolding by_covers
@@ -154,14 +154,14 @@ at_origin-upper own r c p upper =
     ap (λ (k : ℕ). own k (c - p.dx)) same
 
 -- of a lower part it is that of the part above
-at_origin-below : {X : Type 0} (own : ℕ → ℕ → X) (r c : ℕ) (p u : Part) → p ≡ part_below u → u.dy ≡ 0
+at_origin-below : {X : Type 0} (own : ℕ → ℕ → X) (r c : ℕ) (p u : Part) → p ≡ record u { dy = 1 } → u.dy ≡ 0
     → at_origin own r c p ≡ at_origin own (r - 1) c u
 at_origin-below own r c p u same upper =
     let up : r - 1 ≡ r - 1 - u.dy = omega (arith, upper) in
     ap (at_origin own r c) same ∙ ap (λ (k : ℕ). own k (c - u.dx)) up
 
 pub covered_part : (k : Core) (r c : ℕ) → OnScreen r c → covers_below (part_at (parts_of k) (r - 1) c) ≡ true
-    → part_at (parts_of k) r c ≡ part_below (part_at (parts_of k) (r - 1) c)
+    → part_at (parts_of k) r c ≡ record (part_at (parts_of k) (r - 1) c) { dy = 1 }
 covered_part k r c on covered = ((tiled_parts k).places r c on).from_above covered
 
 -- where a place is covered from above it names what the place above it names
@@ -171,7 +171,7 @@ unfolding full_attributes contents_at_origin
 names_at-below k r c on covered =
     let u : Part = part_at (parts_of k) (r - 1) c in
     let upper : u.dy ≡ 0 = eqb-true u.dy 0 (and_parts (u.dy == 0) (u.h == 2) covered).0 in
-    let part : part_at (parts_of k) r c ≡ part_below u = covered_part k r c on covered in
+    let part : part_at (parts_of k) r c ≡ record u { dy = 1 } = covered_part k r c on covered in
     let attributes : at_origin (own_attributes_in k) r c (part_at (parts_of k) r c)
     ≡ at_origin (own_attributes_in k) (r - 1) c u =
     at_origin-below (own_attributes_in k) r c (part_at (parts_of k) r c) u part upper in

@@ -39,7 +39,7 @@ use Rattle.cept_profile.specs.Reach.{is_redefined, is_written, just_one, reaches
 use Rattle.cept_profile.specs.RowsFromAbove.{covering, is_covered_otherwise, is_other_covering, look_seen, looks_in}
 use Rattle.cept_profile.specs.State.{Core, Page, State, core_of, definitions_of, page_after, state_after}
 use Rattle.cept_profile.specs.Strokes.{strokes_of}
-use Rattle.cept_profile.specs.Tiling.{covers_below, part_at, part_below}
+use Rattle.cept_profile.specs.Tiling.{covers_below, part_at}
 use Rattle.cept_profile.specs.Valid.{IsValidPage, IsValidState}
 use Rattle.cept_profile.proofs.ColumnEntries.{column_entry-past, length-row_in, no_index}
 use Rattle.cept_profile.proofs.LooksFromAbove.{covering-alike, look-above}
@@ -288,7 +288,7 @@ look-covered before after q r c made beneath on covered =
     let same = covering-same_look (covers_below (part_of above)) (covers_below (part_of over)) above over (made.covers c)
     covered in
     look-above after r c on covered
-    ∙ ap (λ (l : Look). look_with_part (part_below (part_of l)) l) same.1
+    ∙ ap (λ (l : Look). look_with_part (record (part_of l) { dy = 1 }) l) same.1
     ∙ sym (look-above before q c beneath same.0)
 
 -- a place that is not

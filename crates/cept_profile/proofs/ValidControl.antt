@@ -34,12 +34,11 @@ use Rattle.cept_profile.specs.Motions.{is_first_of, is_last_of, row_below, row_a
 use Rattle.cept_profile.specs.Motions.{working_back}
 use Rattle.cept_profile.specs.Pens.{attribute_of, pen_with, pen_with_any, fast_after}
 use Rattle.cept_profile.specs.Pens.{fast_after_code, flash_of, working_after_function}
-use Rattle.cept_profile.specs.Sets.{Sets, IsAccent, IsValidRead, code_of, sets_with, sets_with_left, sets_with_right}
-use Rattle.cept_profile.specs.Sets.{set_of, sets_with_single, sets_without_single}
+use Rattle.cept_profile.specs.Sets.{Sets, IsAccent, IsValidRead, code_of, set_of, sets_with}
 use Rattle.cept_profile.specs.Tiling.{columns_of_size}
 use Rattle.cept_profile.specs.Valid.{AreValidSets, IsValidWorking, IsValidControl}
 use Rattle.cept_profile.specs.Writing.{sign_with_accent, control_after_copies, working_after_read, working_after_repeat}
-use Rattle.cept_profile.specs.Writing.{graphic_result, control_with_result, columns_of_sign, working_after_sign}
+use Rattle.cept_profile.specs.Writing.{graphic_read, control_after_shift, columns_of_sign, working_after_sign}
 use Rattle.cept_profile.proofs.CodesRead.{IsCode-code_of, IsValidRead-read_as}
 use Rattle.cept_profile.proofs.ValidAttributes.{IsValid-attribute_of}
 
@@ -310,17 +309,17 @@ IsWithin-working_after_read s (reads.Glyph g) is valid =
     (IsValidGlyph-sign_with_accent g.set g.code s.working.accent valid.code is.working.accent)
 
 -- what a graphic byte gives is valid, and so are the sets after it
-pub IsValidRead-graphic_result : (s : ControlState) (byte : ℕ) → IsGraphic byte
-    → IsValidRead (graphic_result s byte).read
-IsValidRead-graphic_result s byte graphic =
+pub IsValidRead-graphic_read : (s : ControlState) (byte : ℕ) → IsGraphic byte → IsValidRead (graphic_read s byte)
+IsValidRead-graphic_read s byte graphic =
     IsValidRead-read_as (set_of s.working.sets byte s.working.run) (code_of byte) (IsCode-code_of byte graphic)
 
-pub IsValidControl-control_with_result : (s : ControlState) (byte : ℕ) → IsValidControl s
-    → IsValidControl (control_with_result s byte)
-IsValidControl-control_with_result s byte is =
-    let sets : AreValidSets (sets_without_single s.working.sets) = assumption in
-    IsValidControl-control_with s (working_with_sets (sets_without_single s.working.sets) s.working) is
-    (IsWithin-working_with_sets s.rows (sets_without_single s.working.sets) s.working (IsWithin-control s is) sets)
+pub IsValidControl-control_after_shift : (s : ControlState) → IsValidControl s
+    → IsValidControl (control_after_shift s)
+IsValidControl-control_after_shift s is =
+    let sets : Sets = record s.working.sets { single = None } in
+    let valid : AreValidSets sets = assumption in
+    IsValidControl-control_with s (working_with_sets sets s.working) is
+    (IsWithin-working_with_sets s.rows sets s.working (IsWithin-control s is) valid)
 
 -- copies leave the format, and keep control valid
 pub rows-control_after_copies : (n : ℕ) (s : ControlState) (g : Glyph) → (control_after_copies n s g).rows ≡ s.rows
@@ -442,20 +441,20 @@ IsValidControl-control_effect s commands.Clear is valid = IsValidControl-working
 IsValidControl-control_effect s (commands.Position r c) is valid =
     IsValidControl-working s is (IsWithin-position s r c is valid)
 IsValidControl-control_effect s (commands.LockLeft g) is valid =
-    IsValidControl-sets s (sets_with_left s.working.sets g) is
+    IsValidControl-sets s (record s.working.sets { left = g }) is
     (record { left = valid; right = is.working.sets.right; single = is.working.sets.single })
 IsValidControl-control_effect s (commands.LockRight g) is valid =
-    IsValidControl-sets s (sets_with_right s.working.sets g) is
+    IsValidControl-sets s (record s.working.sets { right = g }) is
     (record { left = is.working.sets.left; right = valid; single = is.working.sets.single })
 IsValidControl-control_effect s (commands.Single g) is valid =
-    IsValidControl-sets s (sets_with_single s.working.sets g) is
+    IsValidControl-sets s (record s.working.sets { single = Some g }) is
     (record { left = is.working.sets.left; right = is.working.sets.right; single = valid })
 IsValidControl-control_effect s (commands.Designate g set) is valid =
     IsValidControl-sets s (sets_with s.working.sets g set) is
     (AreValidSets-sets_with s.working.sets g set is.working.sets)
 IsValidControl-control_effect s (commands.Graphic byte) is valid =
-    IsValidControl-working s is (IsWithin-working_after_read (control_with_result s byte) (graphic_result s byte).read
-    (IsValidControl-control_with_result s byte is) (IsValidRead-graphic_result s byte valid))
+    IsValidControl-working s is (IsWithin-working_after_read (control_after_shift s) (graphic_read s byte)
+    (IsValidControl-control_after_shift s is) (IsValidRead-graphic_read s byte valid))
 IsValidControl-control_effect s (commands.Repeat n) is valid =
     IsValidControl-working s is (IsWithin-working_after_repeat n s s.working.last is is.working.last)
 IsValidControl-control_effect s (commands.C1 n) is valid =

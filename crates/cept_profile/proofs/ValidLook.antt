@@ -35,13 +35,12 @@ use Rattle.cept_profile.specs.Attributes.{first_value, cascade}
 use Rattle.cept_profile.specs.Colours.{ink, fore_paint, back_paint, paint_over}
 use Rattle.cept_profile.specs.Look.{shape_of, shape_of_sign, attributes_of, look_of, look, looks_of, grid}
 use Rattle.cept_profile.specs.Look.{contents_of_row, look_in_row, look_with_part, own_look, own_size}
-use Rattle.cept_profile.specs.Look.{part_of, shape_by_pattern, shape_in, shape_in_set}
+use Rattle.cept_profile.specs.Look.{part_of, shape_in, shape_in_set}
 use Rattle.cept_profile.specs.Definitions.{Definitions, inks_of, inks_with}
 use Rattle.cept_profile.specs.PageParts.{dclut_in, paint_in, pattern_in, row_pen_in}
 use Rattle.cept_profile.specs.RowsFromAbove.{look_by, look_from, look_seen, looks_in, row_from_above}
 use Rattle.cept_profile.specs.Serial.{held_sign, own_attributes}
 use Rattle.cept_profile.specs.Tiling.{column_entry, covers_below, is_covered_from_left, is_high, is_wide, origin_part}
-use Rattle.cept_profile.specs.Tiling.{part_below, part_to_the_right}
 use Rattle.cept_profile.proofs.ColumnEntries.{column_entry-default, column_entry-row_of}
 use Rattle.cept_profile.proofs.LooksFromAbove.{look-seen, looks_in-from_above}
 use Rattle.cept_profile.proofs.MarkersInForce.{held_sign-valid}
@@ -138,12 +137,12 @@ IsValidInks-inks_of defined are planes =
     (AllByRecursion-list_by_index upper are.paints 16 16) (eqb planes 1) (eqb planes 2) refl refl
 
 IsValidShape-by_pattern : (defined : Definitions) → AreValidDefinitions defined → (g : Glyph) → IsValidGlyph g
-    → (pattern : Option Pattern) → IfSome pattern IsValidPattern → IsValidShape (shape_by_pattern defined g pattern)
+    → (pattern : Option Pattern) → IfSome pattern IsValidPattern → IsValidShape (shape_in_set defined g sets.D pattern)
 IsValidShape-by_pattern defined are g valid None is = valid
 IsValidShape-by_pattern defined are g valid (Some p) is = (is, IsValidInks-inks_of defined are p.planes)
 
 IsValidShape-in_set : (defined : Definitions) → AreValidDefinitions defined → (g : Glyph) → IsValidGlyph g
-    → (set : SetId) → IsCodeOf set g.code → IsValidShape (shape_in_set defined g set)
+    → (set : SetId) → IsCodeOf set g.code → IsValidShape (shape_in_set defined g set (pattern_in defined.patterns g.code))
 IsValidShape-in_set defined are g valid sets.D code =
     IsValidShape-by_pattern defined are g valid (pattern_in defined.patterns g.code)
     (are.patterns g.code (omega (arith, code)))
@@ -155,7 +154,8 @@ IsValidShape-in_set defined are g valid sets.N code = valid
 IsValidShape-sign : (defined : Definitions) → AreValidDefinitions defined → (g : Glyph) → IsValidGlyph g
     → IsValidShape (shape_of_sign defined g)
 IsValidShape-sign defined are g valid =
-    cond_both (eqb g.code 0x20 && eqb g.accent 0) shapes.Space (shape_in_set defined g g.set) IsValidShape (λ e. tt)
+    cond_both (eqb g.code 0x20 && eqb g.accent 0) shapes.Space
+    (shape_in_set defined g g.set (pattern_in defined.patterns g.code)) IsValidShape (λ e. tt)
     (λ e. IsValidShape-in_set defined are g valid g.set valid.code)
 
 pub IsValidShape-shape_of : (defined : Definitions) → AreValidDefinitions defined → (what : What) → IsValidWhat what
@@ -230,13 +230,13 @@ IsValidLook-look_by a al ar l own size last c above before here =
     let wide : Bool = is_wide size && nat_lt c 40 && not (covers_below (part_of ar)) in
     let high : Bool = is_high size && not last in
     let origin : IsValidPart (origin_part wide high) = search rules in
-    cond_both (covers_below (part_of a)) (look_with_part (part_below (part_of a)) a)
-    (cond (is_covered_from_left (part_of al) (part_of l)) (look_with_part (part_to_the_right (part_of l)) l)
+    cond_both (covers_below (part_of a)) (look_with_part (record (part_of a) { dy = 1 }) a)
+    (cond (is_covered_from_left (part_of al) (part_of l)) (look_with_part (record (part_of l) { dy = 0; dx = 1 }) l)
     (look_with_part (origin_part wide high) own)) IsValidLook
-    (λ _. IsValidLook-with_part (part_below (part_of a)) a (search rules) above)
+    (λ _. IsValidLook-with_part (record (part_of a) { dy = 1 }) a (search rules) above)
     (λ _. cond_both (is_covered_from_left (part_of al) (part_of l))
-    (look_with_part (part_to_the_right (part_of l)) l) (look_with_part (origin_part wide high) own) IsValidLook
-    (λ _. IsValidLook-with_part (part_to_the_right (part_of l)) l (search rules) before)
+    (look_with_part (record (part_of l) { dy = 0; dx = 1 }) l) (look_with_part (origin_part wide high) own) IsValidLook
+    (λ _. IsValidLook-with_part (record (part_of l) { dy = 0; dx = 1 }) l (search rules) before)
     (λ _. IsValidLook-with_part (origin_part wide high) own origin here))
 
 IsValidLook-blank_look : IsValidLook blank_look

@@ -36,13 +36,13 @@ use Rattle.cept_profile.specs.Control.{ControlState, state_for_effect}
 use Rattle.cept_profile.specs.Markers.{marker_of, strokes_of_marker}
 use Rattle.cept_profile.specs.Control.{Working, control_after, control_after_service, control_effect}
 use Rattle.cept_profile.specs.Motions.{area_in_force, area_within, back_strokes, on_strokes, scrolling_area}
-use Rattle.cept_profile.specs.Motions.{scroll_under, strokes_of_scroll}
+use Rattle.cept_profile.specs.Motions.{strokes_of_scroll}
 use Rattle.cept_profile.specs.Pens.{attribute_of, flash_of, strokes_of_function}
 use Rattle.cept_profile.specs.Sets.{IsValidRead}
 use Rattle.cept_profile.specs.Strokes.{strokes_when, strokes_of}
 use Rattle.cept_profile.specs.Valid.{IsValidControl}
 use Rattle.cept_profile.specs.Writing.{columns_of_sign, sign_with_accent, control_after_copies, content}
-use Rattle.cept_profile.specs.Writing.{strokes_of_copies, strokes_of_read, strokes_of_repeat, graphic_result}
+use Rattle.cept_profile.specs.Writing.{strokes_of_copies, strokes_of_read, strokes_of_repeat, graphic_read}
 use Rattle.cept_profile.specs.Writing.{strokes_of_sign}
 use Rattle.cept_profile.proofs.CopiesOfSigns.{length-strokes_of_copies}
 use Rattle.cept_profile.proofs.MotionStrokes.{by_above, by_back_strokes, by_below, by_on_strokes, length-above_strokes}
@@ -50,7 +50,7 @@ use Rattle.cept_profile.proofs.MotionStrokes.{length-back_strokes, length-below_
 use Rattle.cept_profile.proofs.MotionStrokes.{length-strokes_of_scroll}
 use Rattle.cept_profile.proofs.ValidAttributes.{IsRowAttr-attribute_of, IsScreenAttr-attribute_of}
 use Rattle.cept_profile.proofs.ValidControl.{IsValidControl-control_after_copies, IsValidControl-state_for_effect}
-use Rattle.cept_profile.proofs.ValidControl.{IsValidGlyph-sign_with_accent, IsValidRead-graphic_result}
+use Rattle.cept_profile.proofs.ValidControl.{IsValidGlyph-sign_with_accent, IsValidRead-graphic_read}
 use Rattle.cept_profile.proofs.ValidControl.{rows-control_after_copies}
 
 -- ---- cells, place by place
@@ -224,11 +224,13 @@ content_is_not_blank c1sets.Parallel g pen e = parallel_is_not_blank g pen e
 content_is_not_blank c1sets.Serial g pen e = serial_is_not_blank g e
 
 -- under either revision the rows of an area within the format go up or down
-IsSafe-scroll_under : (rows revision : ℕ) (way : Up) (area : ℕ × ℕ) → IsArea area.0 area.1 → area.1 ≤ rows
-    → IsSafe rows (scroll_under revision way area)
-IsSafe-scroll_under rows revision way area is within =
-    cond_both (eqb revision 2) (strokes.Carry area.0 area.1 way) (strokes.Shift area.0 area.1 way) (IsSafe rows)
-    (λ e. (is, within)) (λ e. (is, within))
+IsSafe-rows_of_area : (rows : ℕ) (s : ControlState) (way : Up) (area : ℕ × ℕ) → IsArea area.0 area.1 → area.1 ≤ rows
+    → AllByRecursion (IsSafe rows) (strokes_of_scroll s way (Some area))
+IsSafe-rows_of_area rows s way area is within = (
+  cond_both (eqb s.revision 2) (strokes.Carry area.0 area.1 way) (strokes.Shift area.0 area.1 way) (IsSafe rows)
+      (λ e. (is, within)) (λ e. (is, within)),
+  tt,
+)
 
 -- the strokes of motions
 IsSafe-area_within : (s : ControlState) (way : Up) (rows : ℕ) (area : Option (ℕ × ℕ)) → IfSome area (λ a. IsArea a.0 a.1)
@@ -237,7 +239,7 @@ IsSafe-area_within s way rows None is = tt
 IsSafe-area_within s way rows (Some area) is =
     cond_both (leb area.1 rows) (Some area) None
     (λ (there : Option (ℕ × ℕ)). AllByRecursion (IsSafe rows) (strokes_of_scroll s way there))
-    (λ e. (IsSafe-scroll_under rows s.revision way area is (leb-true area.1 rows e), tt)) (λ e. tt)
+    (λ e. IsSafe-rows_of_area rows s way area is (leb-true area.1 rows e)) (λ e. tt)
 
 IsSafe-shift : (way : Up) (s : ControlState) → IsValidControl s
     → AllByRecursion (IsSafe s.rows) (strokes_of_scroll s way (area_in_force s))
@@ -375,7 +377,8 @@ IsSafe-strokes_when s commands.Up is valid = inl ((by_above (AllByRecursion (IsS
 IsSafe-strokes_when s commands.ScrollUp is valid = inl ((IsSafe-shift ways.Up s is), refl)
 IsSafe-strokes_when s commands.ScrollDown is valid = inl ((IsSafe-shift ways.Down s is), refl)
 IsSafe-strokes_when s commands.Clear is valid = inl (((tt, tt)), refl)
-IsSafe-strokes_when s (commands.Graphic byte) is valid = inl ((IsSafe-strokes_of_read s (graphic_result s byte).read is (IsValidRead-graphic_result s byte valid)), refl)
+IsSafe-strokes_when s (commands.Graphic byte) is valid =
+    inl ((IsSafe-strokes_of_read s (graphic_read s byte) is (IsValidRead-graphic_read s byte valid)), refl)
 IsSafe-strokes_when s (commands.Repeat n) is valid = inl ((IsSafe-strokes_of_repeat n s s.working.last is is.working.last), refl)
 IsSafe-strokes_when s commands.Cancel is valid = inl (((is.working.place, tt)), refl)
 IsSafe-strokes_when s (commands.C1 n) is valid = inl (
@@ -475,7 +478,7 @@ length-strokes_when s commands.Up valid = omega (arith, length-above_strokes s s
 length-strokes_when s commands.ScrollUp valid = omega (arith, length-strokes_of_scroll s ways.Up (area_in_force s))
 length-strokes_when s commands.ScrollDown valid = omega (arith, length-strokes_of_scroll s ways.Down (area_in_force s))
 length-strokes_when s commands.Clear valid = omega arith
-length-strokes_when s (commands.Graphic byte) valid = length-strokes_of_read s (graphic_result s byte).read
+length-strokes_when s (commands.Graphic byte) valid = length-strokes_of_read s (graphic_read s byte)
 length-strokes_when s (commands.Repeat n) valid = length-strokes_of_repeat n s s.working.last valid
 length-strokes_when s (commands.C1 n) valid = length-function s s.working.c1 (marker_of s.working.table n)
 length-strokes_when s (commands.FlashMode k) valid =

@@ -18,7 +18,7 @@ use Rattle.cept_profile.specs.Markers.{marker_of}
 use Rattle.cept_profile.specs.Motions.{row_below, row_above, working_ahead, working_back}
 use Rattle.cept_profile.specs.Pens.{attribute_of, fast_after, fast_after_code, flash_of, working_after_function}
 use Rattle.cept_profile.specs.Writing.{control_after_copies, working_after_repeat, sign_with_accent, working_after_read}
-use Rattle.cept_profile.specs.Writing.{columns_of_sign, graphic_result, control_with_result}
+use Rattle.cept_profile.specs.Writing.{columns_of_sign, graphic_read, control_after_shift}
 
 -- what moves leaves the accent and the sets
 working_ahead-accent : (s : ControlState) (n : ℕ) (w : Working) → (working_ahead s n w).accent ≡ w.accent
@@ -36,13 +36,13 @@ working_back-accent s w =
     (λ e. cond_both s.wrap (working_at (row_above s w.row) 40 w) w (λ v. v.accent ≡ w.accent) (λ e1. refl) (λ e1. refl))
     (λ e. refl)
 
-working_ahead-single : (s : ControlState) (n : ℕ) (w : Working) → (working_ahead s n w).sets.single ≡ w.sets.single
-working_ahead-single s n w =
+working_ahead-sets : (s : ControlState) (n : ℕ) (w : Working) → (working_ahead s n w).sets ≡ w.sets
+working_ahead-sets s n w =
     cond_both (leb (w.column + n) 40) (working_at w.row (w.column + n) w)
-    (cond s.wrap (working_at (row_below s w.row) 1 w) (working_at w.row 40 w)) (λ v. v.sets.single ≡ w.sets.single)
+    (cond s.wrap (working_at (row_below s w.row) 1 w) (working_at w.row 40 w)) (λ v. v.sets ≡ w.sets)
     (λ e. refl)
     (λ e. cond_both s.wrap (working_at (row_below s w.row) 1 w) (working_at w.row 40 w)
-    (λ v. v.sets.single ≡ w.sets.single) (λ e1. refl) (λ e1. refl))
+    (λ v. v.sets ≡ w.sets) (λ e1. refl) (λ e1. refl))
 
 -- after copies no accent waits
 control_after_copies-accent : (n : ℕ) (s : ControlState) (g : Glyph) → s.working.accent ≡ None
@@ -102,19 +102,19 @@ accent-back s w some =
     some
 
 -- an accent that was read waits
-pub accent-waits : (s : ControlState) (byte code : ℕ) → (graphic_result s byte).read ≡ reads.Accent code
+pub accent-waits : (s : ControlState) (byte code : ℕ) → graphic_read s byte ≡ reads.Accent code
     → (control_after s (commands.Graphic byte)).working.accent ≡ Some code
-accent-waits s byte code e = ap (λ (read : Read). (working_after_read (control_with_result s byte) read).accent) e
+accent-waits s byte code e = ap (λ (read : Read). (working_after_read (control_after_shift s) read).accent) e
 
 -- a sign that was read takes it, if it is of set P
-pub accent-graphic_result : (s : ControlState) (byte : ℕ) (g : Glyph) → (graphic_result s byte).read ≡ reads.Glyph g
+pub accent-graphic_read : (s : ControlState) (byte : ℕ) (g : Glyph) → graphic_read s byte ≡ reads.Glyph g
     → (control_after s (commands.Graphic byte)).working.last ≡ Some (sign_with_accent g.set g.code s.working.accent)
-accent-graphic_result s byte g e = ap (λ (read : Read). (working_after_read (control_with_result s byte) read).last) e
+accent-graphic_read s byte g e = ap (λ (read : Read). (working_after_read (control_after_shift s) read).last) e
 
 -- and no accent waits after it
-pub accent-spent : (s : ControlState) (byte : ℕ) (g : Glyph) → (graphic_result s byte).read ≡ reads.Glyph g
+pub accent-spent : (s : ControlState) (byte : ℕ) (g : Glyph) → graphic_read s byte ≡ reads.Glyph g
     → (control_after s (commands.Graphic byte)).working.accent ≡ None
-accent-spent s byte g e = ap (λ (read : Read). (working_after_read (control_with_result s byte) read).accent) e
+accent-spent s byte g e = ap (λ (read : Read). (working_after_read (control_after_shift s) read).accent) e
 
 -- the commands without effect
 pub nul_leaves : (s : ControlState) → control_after s commands.Nul ≡ s
@@ -124,13 +124,17 @@ pub skipped_leaves : (s : ControlState) → control_after s commands.Skipped ≡
 skipped_leaves s = refl
 
 -- a single shift waits until the next graphic byte
-working_after_read-single : (s : ControlState) (read : Read)
-    → (working_after_read s read).sets.single ≡ s.working.sets.single
-working_after_read-single s (reads.Accent code) = refl
-working_after_read-single s (reads.Glyph g) = working_ahead-single s (columns_of_sign s) s.working
+working_after_read-sets : (s : ControlState) (read : Read) → (working_after_read s read).sets ≡ s.working.sets
+working_after_read-sets s (reads.Accent code) = refl
+working_after_read-sets s (reads.Glyph g) = working_ahead-sets s (columns_of_sign s) s.working
 
-pub shift-spent : (s : ControlState) (byte : ℕ) → (control_after s (commands.Graphic byte)).working.sets.single ≡ None
-shift-spent s byte = working_after_read-single (control_with_result s byte) (graphic_result s byte).read
+pub shift-spent : (s : ControlState) (byte : ℕ)
+    → (control_after s (commands.Graphic byte)).working.sets ≡ record s.working.sets { single = None }
+shift-spent s byte = working_after_read-sets (control_after_shift s) (graphic_read s byte)
 
 pub shift-waits : (s : ControlState) (g : ℕ) → (control_after s (commands.Single g)).working.sets.single ≡ Some g
 shift-waits s g = refl
+
+pub shift-replaced : (s : ControlState) (g h : ℕ)
+    → control_after (control_after s (commands.Single g)) (commands.Single h) ≡ control_after s (commands.Single h)
+shift-replaced s g h = refl

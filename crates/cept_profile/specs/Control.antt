@@ -10,8 +10,8 @@ use Rattle.cept_codes.specs.declared.command.C1Set.TheVariants as c1sets
 use Rattle.cept_profile.specs.Markers.{marker_of}
 use Rattle.cept_profile.specs.Motions.{row_below, row_above, working_ahead, working_back}
 use Rattle.cept_profile.specs.Pens.{attribute_of, fast_after, fast_after_code, flash_of, working_after_function}
-use Rattle.cept_profile.specs.Sets.{sets_with, sets_with_left, sets_with_right, sets_with_single}
-use Rattle.cept_profile.specs.Writing.{working_after_repeat, working_after_read, graphic_result, control_with_result}
+use Rattle.cept_profile.specs.Sets.{sets_with}
+use Rattle.cept_profile.specs.Writing.{working_after_repeat, working_after_read, graphic_read, control_after_shift}
 pub use Rattle.cept_profile.specs.Working.{Working, ControlState, Sets, initial_sets, initial_working, initial_control}
 pub use Rattle.cept_profile.specs.Working.{control_with, working_at, working_with_sets, working_without_run}
 pub use Rattle.cept_profile.specs.Working.{working_by_default, working_without_pen}
@@ -57,14 +57,16 @@ control_effect s commands.Home = control_with s (working_without_pen (working_wi
 control_effect s commands.Clear = control_with s (working_without_pen (working_without_run (working_at 1 1 s.working)))
 control_effect s (commands.Position r c) =
     control_with s (working_without_pen (working_without_run (working_at (min r s.rows) c s.working)))
-control_effect s (commands.LockLeft g) = control_with s (working_with_sets (sets_with_left s.working.sets g) s.working)
+control_effect s (commands.LockLeft g) =
+    control_with s (working_with_sets (record s.working.sets { left = g }) s.working)
 control_effect s (commands.LockRight g) =
-    control_with s (working_with_sets (sets_with_right s.working.sets g) s.working)
-control_effect s (commands.Single g) = control_with s (working_with_sets (sets_with_single s.working.sets g) s.working)
+    control_with s (working_with_sets (record s.working.sets { right = g }) s.working)
+control_effect s (commands.Single g) =
+    control_with s (working_with_sets (record s.working.sets { single = Some g }) s.working)
 control_effect s (commands.Designate g set) =
     control_with s (working_with_sets (sets_with s.working.sets g set) s.working)
 control_effect s (commands.Graphic byte) =
-    control_with s (working_after_read (control_with_result s byte) (graphic_result s byte).read)
+    control_with s (working_after_read (control_after_shift s) (graphic_read s byte))
 control_effect s (commands.Repeat n) = control_with s (working_after_repeat n s s.working.last)
 control_effect s (commands.C1 n) =
     control_with s (working_after_function s.working.c1 (attribute_of s.working.table n) (marker_of s.working.table n)

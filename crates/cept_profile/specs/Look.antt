@@ -20,6 +20,7 @@ use Rattle.cept_codes.specs.declared.look.Shape.{Shape}
 use Rattle.cept_codes.specs.declared.look.Shape.TheVariants as shapes
 use Rattle.cept_codes.specs.Attribute.{unset_pen}
 use Rattle.cept_codes.specs.Cell.{blank_cell}
+use Rattle.cept_codes.specs.Look.{blank_look}
 use Rattle.cept_codes.specs.Table.{table, value_at}
 use Rattle.cept_profile.specs.Attributes.{cascade}
 use Rattle.cept_profile.specs.Colours.{fore_paint, back_paint, paint_over}
@@ -30,19 +31,17 @@ use Rattle.cept_profile.specs.Serial.{held_sign, own_attributes}
 use Rattle.cept_profile.specs.State.{Core, core, definitions_of}
 use Rattle.cept_profile.specs.Tiling.{part_at, tiled_table}
 
--- a sign of the downloaded set is drawn as the pattern of its code with its inks, where one is defined
-abbrev pub shape_by_pattern : Definitions → Glyph → Option Pattern → Shape
-shape_by_pattern defined g None = shapes.Char g
-shape_by_pattern defined g (Some pattern) = shapes.Drcs pattern (inks_of defined pattern.planes)
-
--- a sign of any other set as itself
-abbrev pub shape_in_set : Definitions → Glyph → SetId → Shape
-shape_in_set defined g sets.D = shape_by_pattern defined g (pattern_in defined.patterns g.code)
-shape_in_set defined g _ = shapes.Char g
+-- a sign of the downloaded set is drawn as the pattern of its code with its inks, where one is defined; any other as
+-- itself
+abbrev pub shape_in_set : Definitions → Glyph → SetId → Option Pattern → Shape
+shape_in_set defined g sets.D (Some pattern) = shapes.Drcs pattern (inks_of defined pattern.planes)
+shape_in_set defined g _ _ = shapes.Char g
 
 -- and the space without accent as nothing
 abbrev pub shape_of_sign : Definitions → Glyph → Shape
-shape_of_sign defined g = if g.code == 0x20 && g.accent == 0 then shapes.Space else shape_in_set defined g g.set
+shape_of_sign defined g =
+    if g.code == 0x20 && g.accent == 0 then shapes.Space else
+    shape_in_set defined g g.set (pattern_in defined.patterns g.code)
 
 -- the shape of what stands in a cell
 abbrev pub shape_of : Definitions → What → Shape
@@ -58,12 +57,8 @@ attributes_of row screen _ = cascade unset_pen row screen
 
 -- a shape of single size with its attributes, in the paints of the entries
 abbrev pub look_with : (ℕ → Paint) → Shape → Full → Look
-look_with paint_of shape f = record {
+look_with paint_of shape f = record blank_look {
   shape = shape;
-  dy = 0;
-  dx = 0;
-  w = 1;
-  h = 1;
   fore = paint_over (fore_paint paint_of f) (back_paint paint_of f);
   back = back_paint paint_of f;
   flash = f.flash;

@@ -1,6 +1,6 @@
 -- Motions: where the position goes, and the strokes that each makes (T/CD 6-1, the C0 format effectors; wrapping and
 -- scrolling areas are this profile's own).
-use Rattle.std.specs.Prelude.{ℕ, ◌+◌, ◌-◌, Bool, false, Option, Some, None, List, [], ◌∷◌, nat_le, ◌==◌}
+use Rattle.std.specs.Prelude.{ℕ, ◌+◌, ◌-◌, Bool, false, Option, Some, None, List, [], ◌∷◌, nat_le, ◌==◌, option_and_then}
 use Rattle.std.specs.Prelude.{if◌then◌else◌}
 use Rattle.cept_codes.specs.declared.command.Up.{Up}
 use Rattle.cept_codes.specs.declared.command.Up.TheVariants as ways
@@ -17,8 +17,7 @@ place_number s = number s.working.row s.working.column
 
 -- an area whose last row is one of so many
 abbrev pub area_within : ℕ → Option (ℕ × ℕ) → Option (ℕ × ℕ)
-area_within rows None = None
-area_within rows (Some area) = if nat_le area.1 rows then Some area else None
+area_within rows area = option_and_then (λ (a : ℕ × ℕ). if nat_le a.1 rows then Some a else None) area
 
 -- the area in force: it is there, and within the format
 abbrev pub area_in_force : ControlState → Option (ℕ × ℕ)
@@ -38,15 +37,11 @@ abbrev pub is_last_of : Option (ℕ × ℕ) → ℕ → Bool
 is_last_of None r = false
 is_last_of (Some area) r = area.1 == r
 
--- under this revision the rows of the area go one row up or down: under the second their attributes go with them
-abbrev pub scroll_under : ℕ → Up → ℕ × ℕ → Stroke
-scroll_under revision way area =
-    if revision == 2 then strokes.Carry area.0 area.1 way else strokes.Shift area.0 area.1 way
-
--- in this state the rows of the area go one row up or down
+-- the rows of the area go one row up or down: under the second revision their attributes go with them
 abbrev pub strokes_of_scroll : ControlState → Up → Option (ℕ × ℕ) → List Stroke
 strokes_of_scroll s way None = []
-strokes_of_scroll s way (Some area) = scroll_under s.revision way area ∷ []
+strokes_of_scroll s way (Some area) =
+    (if s.revision == 2 then strokes.Carry area.0 area.1 way else strokes.Shift area.0 area.1 way) ∷ []
 
 -- ---- motions
 

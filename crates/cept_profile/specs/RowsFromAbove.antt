@@ -11,7 +11,6 @@ use Rattle.cept_codes.specs.Same.{same_look}
 use Rattle.cept_codes.specs.Table.{row_of}
 use Rattle.cept_profile.specs.Look.{look_with_part, part_of}
 use Rattle.cept_profile.specs.Tiling.{column_entry, covers_below, is_covered_from_left, is_high, is_wide, origin_part}
-use Rattle.cept_profile.specs.Tiling.{part_below, part_to_the_right}
 
 -- forty blank looks
 abbrev pub blank_looks : List Look
@@ -30,9 +29,8 @@ look_seen g r c = column_entry blank_look (looks_in g r) c
 -- the look of a place by the looks around it and by the look and the size that stand there by themselves
 abbrev pub look_by : Look → Look → Look → Look → Look → Size → Bool → ℕ → Look
 look_by above above_left above_right left own size last c =
-    if covers_below (part_of above) then look_with_part (part_below (part_of above)) above else
-    if is_covered_from_left (part_of above_left) (part_of left)
-    then look_with_part (part_to_the_right (part_of left)) left else
+    if covers_below (part_of above) then record above { dy = 1 } else
+    if is_covered_from_left (part_of above_left) (part_of left) then record left { dy = 0; dx = 1 } else
     look_with_part (origin_part (is_wide size && nat_lt c 40 && not (covers_below (part_of above_right)))
     (is_high size && not last)) own
 

@@ -2,8 +2,9 @@
 -- in cells, where each begins to act, and hold, are this profile's own). A row tells what stands in each column, from
 -- 1; column 0 and what is past the row are never asked.
 use Rattle.std.specs.Prelude.{ℕ, zero, suc, ◌-◌, List, slice_index_or, Bool, true, false, not, ◌&&◌, ◌||◌}
-use Rattle.std.specs.Prelude.{if◌then◌else◌, Option, Some, None, unwrap_or}
+use Rattle.std.specs.Prelude.{if◌then◌else◌, Option, Some, None, unwrap_or, option_and_then}
 use Rattle.std.specs.Prelude.{nat_lt, ◌==◌, is_some}
+use Rattle.std.specs.Option.{option_map_or}
 use Rattle.cept_codes.specs.declared.attribute.Flash.{Flash}
 use Rattle.cept_codes.specs.declared.attribute.Flash.TheVariants as flashes
 use Rattle.cept_codes.specs.declared.attribute.Full.{Full}
@@ -101,30 +102,23 @@ acts row class c d = class (row d) && (nat_lt d c || (d == c && acts_there (row 
 unfoldable pub column_in_force : (ℕ → What) → (What → Bool) → ℕ → Option ℕ
 column_in_force row class c = nearest_column (acts row class c) c
 
--- ---- what is in force
-
--- what is said in the column that was found
-abbrev pub value_found : {X : Type 0} → (ℕ → Option X) → Option ℕ → Option X
-value_found says None = None
-value_found says (Some d) = says d
-
 -- ---- attributes
 
 -- the foreground in force
 abbrev pub fore_at : (ℕ → What) → Pen → Pen → ℕ → ℕ
 fore_at row pen screen c =
-    first_value (value_found (λ d. fore_said (row d)) (column_in_force row (said fore_said) c)) pen.fore screen.fore 7
+    first_value (option_and_then (λ d. fore_said (row d)) (column_in_force row (said fore_said) c)) pen.fore screen.fore 7
 
 -- the pen that markers make, each class by the column that is found for it; no marker inverts
 abbrev pub pen_of : (ℕ → What) → (ℕ → ℕ) → ((What → Bool) → Option ℕ) → Pen
 pen_of row fore column = record {
-  fore = value_found (λ d. fore_said (row d)) (column (said fore_said));
-  back = value_found (λ d. back_said (fore d) (row d)) (column (said (back_said 0)));
-  flash = value_found (λ d. flash_said (row d)) (column (said flash_said));
-  conceal = value_found (λ d. conceal_said (row d)) (column (said conceal_said));
-  lined = value_found (λ d. lined_said (row d)) (column (said lined_said));
-  boxed = value_found (λ d. boxed_said (row d)) (column (said boxed_said));
-  size = value_found (λ d. size_said (row d)) (column (said size_said));
+  fore = option_and_then (λ d. fore_said (row d)) (column (said fore_said));
+  back = option_and_then (λ d. back_said (fore d) (row d)) (column (said (back_said 0)));
+  flash = option_and_then (λ d. flash_said (row d)) (column (said flash_said));
+  conceal = option_and_then (λ d. conceal_said (row d)) (column (said conceal_said));
+  lined = option_and_then (λ d. lined_said (row d)) (column (said lined_said));
+  boxed = option_and_then (λ d. boxed_said (row d)) (column (said boxed_said));
+  size = option_and_then (λ d. size_said (row d)) (column (said size_said));
   invert = None;
 }
 
@@ -147,7 +141,7 @@ own_attributes row pen screen c = own_attributes_of (row c) pen screen (serial_a
 
 -- hold is in force; by default it is not
 unfoldable pub is_holding : (ℕ → What) → ℕ → Bool
-is_holding row c = unwrap_or (value_found (λ d. hold_said (row d)) (column_in_force row (said hold_said) c)) false
+is_holding row c = unwrap_or (option_and_then (λ d. hold_said (row d)) (column_in_force row (said hold_said) c)) false
 
 -- the two mosaic sets
 abbrev pub is_mosaic : SetId → Bool
@@ -160,18 +154,13 @@ abbrev pub mosaic_of : What → Option Glyph
 mosaic_of (whats.Serial g) = if is_mosaic g.set then Some g else None
 mosaic_of _ = None
 
--- a column was found, right of column d
-abbrev pub lies_after : ℕ → Option ℕ → Bool
-lies_after d None = false
-lies_after d (Some e) = nat_lt d e
-
 -- a size marker stands right of column d, up to column c
 abbrev pub is_sized_since : (ℕ → What) → ℕ → ℕ → Bool
-is_sized_since row d c = lies_after d (nearest_column (λ e. said size_said (row e)) c)
+is_sized_since row d c = option_map_or (nat_lt d) (nearest_column (λ e. said size_said (row e)) c) false
 
 -- the sign held here: that of the nearest cell without a marker, if a serial mosaic sign, with no size marker since
 unfoldable pub kept_sign : (ℕ → What) → ℕ → Option Glyph
-kept_sign row c = value_found (λ d. if is_sized_since row d c then None
+kept_sign row c = option_and_then (λ d. if is_sized_since row d c then None
     else mosaic_of (row d)) (nearest_column (λ d. not (is_marker (row d))) c)
 
 -- the held sign of a cell: a marker's, where hold is in force

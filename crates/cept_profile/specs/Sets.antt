@@ -1,6 +1,7 @@
 -- Sets of graphic signs: code extension after ISO 2022, and accents before their sign after ISO 6937. Which sets there
 -- are, which stand where at the start, and the mosaic run are this profile's own.
-use Rattle.std.specs.Prelude.{ℕ, ◌%◌, ◌≤◌, Bool, false, ◌&&◌, Option, Some, None, nat_lt, nat_le, ◌==◌, if◌then◌else◌}
+use Rattle.std.specs.Prelude.{ℕ, ◌%◌, ◌≤◌, Bool, false, ◌&&◌, Option, None, nat_lt, nat_le, ◌==◌, if◌then◌else◌}
+use Rattle.std.specs.Option.{option_map_or}
 use Rattle.cept_codes.specs.declared.glyph.Glyph.{Glyph}
 use Rattle.cept_codes.specs.declared.glyph.Read.{Read}
 use Rattle.cept_codes.specs.declared.glyph.Read.TheVariants as reads
@@ -34,22 +35,6 @@ sets_with s g set =
 abbrev pub set_in : Sets → ℕ → SetId
 set_in s g = if g == 0 then s.g0 else if g == 1 then s.g1 else if g == 2 then s.g2 else s.g3
 
--- a locking shift: left bytes take this one of G0 to G3
-abbrev pub sets_with_left : Sets → ℕ → Sets
-sets_with_left s g = record s { left = g }
-
--- a locking shift: right bytes take this one of G1 to G3
-abbrev pub sets_with_right : Sets → ℕ → Sets
-sets_with_right s g = record s { right = g }
-
--- a single shift: the next graphic byte takes G2 or G3, and a shift that waited is forgotten
-abbrev pub sets_with_single : Sets → ℕ → Sets
-sets_with_single s g = record s { single = Some g }
-
--- no single shift waits
-abbrev pub sets_without_single : Sets → Sets
-sets_without_single s = record s { single = None }
-
 -- a byte of the left half, 2/0 to 7/15
 abbrev pub is_left : ℕ → Bool
 is_left byte = nat_lt byte 0x80
@@ -58,21 +43,13 @@ is_left byte = nat_lt byte 0x80
 abbrev pub code_of : ℕ → ℕ
 code_of byte = byte % 0x80
 
--- the set of a byte where no single shift waits: M for a left byte in a mosaic run, else the one locked to its side
-abbrev pub locked_set : Sets → ℕ → Bool → SetId
-locked_set s byte run =
+-- the set of a byte: that of a single shift which waits; else M for a left byte in a mosaic run; else the one locked to
+-- its side
+unfoldable pub set_of : Sets → ℕ → Bool → SetId
+set_of s byte run = option_map_or (set_in s) s.single (
     if run && is_left byte then sets.M else
     if is_left byte then set_in s s.left else
-    set_in s s.right
-
--- the set of a byte: that of the single shift which waits, else as locked
-abbrev pub set_by : Option ℕ → Sets → ℕ → Bool → SetId
-set_by (Some g) s byte run = set_in s g
-set_by None s byte run = locked_set s byte run
-
--- the same by the shift that waits in these sets
-unfoldable pub set_of : Sets → ℕ → Bool → SetId
-set_of s byte run = set_by s.single s byte run
+    set_in s s.right)
 
 -- an accent's code
 abbrev pub IsAccent : ℕ → Type 0
@@ -93,15 +70,6 @@ read_as set code =
     if code == 0x20 then reads.Glyph (sign sets.P 0x20) else
     if is_accent set code then reads.Accent code else
     reads.Glyph (sign set code)
-
--- what was read, and the sets after it
-pub record GraphicResult : Type 0 where
-  pub read : Read
-  pub sets : Sets
-
--- what a graphic byte gives, in a mosaic run or outside: it spends a single shift that waits
-abbrev pub graphic : Sets → ℕ → Bool → GraphicResult
-graphic s byte run = record { read = read_as (set_of s byte run) (code_of byte); sets = sets_without_single s }
 
 -- a valid sign, or an accent
 abbrev pub IsValidRead : Read → Type 0

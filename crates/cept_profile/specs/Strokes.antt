@@ -12,7 +12,7 @@ use Rattle.cept_profile.specs.Markers.{marker_of}
 use Rattle.cept_profile.specs.Motions.{below_strokes, above_strokes, on_strokes, back_strokes}
 use Rattle.cept_profile.specs.Motions.{area_in_force, strokes_of_scroll}
 use Rattle.cept_profile.specs.Pens.{attribute_of, flash_of, strokes_of_function}
-use Rattle.cept_profile.specs.Writing.{strokes_of_read, strokes_of_repeat, graphic_result}
+use Rattle.cept_profile.specs.Writing.{strokes_of_read, strokes_of_repeat, graphic_read}
 
 -- the strokes of a command in this state. An attribute of screen or row has its parallel meaning under either C1 set
 abbrev pub strokes_when : ControlState → Command → List Stroke
@@ -21,7 +21,7 @@ strokes_when s commands.Forward = on_strokes s 1
 strokes_when s commands.Down = below_strokes s s.working.row
 strokes_when s commands.Up = above_strokes s s.working.row
 strokes_when s commands.Clear = strokes.Wipe ∷ []
-strokes_when s (commands.Graphic byte) = strokes_of_read s (graphic_result s byte).read
+strokes_when s (commands.Graphic byte) = strokes_of_read s (graphic_read s byte)
 strokes_when s (commands.Repeat n) = strokes_of_repeat n s s.working.last
 strokes_when s commands.Cancel = strokes.Erase s.working.row s.working.column ∷ []
 strokes_when s (commands.C1 n) = strokes_of_function s.working.c1 (marker_of s.working.table n) s

@@ -52,14 +52,6 @@ origin_part wide high = record { dy = 0; dx = 0; w = if wide then 2 else 1; h = 
 abbrev pub single_part : Part
 single_part = record { dy = 0; dx = 0; w = 1; h = 1 }
 
--- the same part, one place down
-abbrev pub part_below : Part → Part
-part_below p = record { dy = 1; dx = p.dx; w = p.w; h = p.h }
-
--- the upper part one place to the right
-abbrev pub part_to_the_right : Part → Part
-part_to_the_right p = record { dy = 0; dx = 1; w = p.w; h = p.h }
-
 -- a part that covers the place below it
 abbrev pub covers_below : Part → Bool
 covers_below p = p.dy == 0 && p.h == 2
@@ -97,9 +89,9 @@ part_at t r c = column_entry single_part (parts_in t r) c
 -- of a sign of the size that is wanted there, which is never high in the last row, and never wide in the last column or
 -- where its right neighbour is covered from above
 pub record IsTiledAt (above row : ℕ → Part) (size : Size) (last : Bool) (c : ℕ) : Type 0 where
-  pub from_above : IsTrue (covers_below (above c)) → row c ≡ part_below (above c)
+  pub from_above : IsTrue (covers_below (above c)) → row c ≡ record (above c) { dy = 1 }
   pub from_left : IsFalse (covers_below (above c)) → IsTrue (is_covered_from_left (above (c - 1)) (row (c - 1)))
-      → row c ≡ part_to_the_right (row (c - 1))
+      → row c ≡ record (row (c - 1)) { dy = 0; dx = 1 }
   pub origin : IsFalse (covers_below (above c)) → IsFalse (is_covered_from_left (above (c - 1)) (row (c - 1)))
       → row c ≡ origin_part (is_wide size && nat_lt c 40 && not (covers_below (above (c + 1))))
       (is_high size && not last)
@@ -117,11 +109,12 @@ pub record IsTiled (wanted : ℕ → ℕ → Size) (is_last : ℕ → Bool) (t :
 
 -- ---- the one table that meets them, from the top and the left
 
--- the part of a place by the parts around it: the one above, those left and right of that, and the one left
+-- the part of a place by the parts around it, which are the one above, those left and right of that, and the one left:
+-- the part below the one above or to the right of the one left where that covers the place, else the origin of a sign
 abbrev pub part_by : Part → Part → Part → Part → Size → Bool → ℕ → Part
 part_by above above_left above_right left size last c =
-    if covers_below above then part_below above else
-    if is_covered_from_left above_left left then part_to_the_right left else
+    if covers_below above then record above { dy = 1 } else
+    if is_covered_from_left above_left left then record left { dy = 0; dx = 1 } else
     origin_part (is_wide size && nat_lt c 40 && not (covers_below above_right)) (is_high size && not last)
 
 -- the parts of a row from the left; left of the first column stands a whole sign

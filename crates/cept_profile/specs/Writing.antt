@@ -1,8 +1,8 @@
 -- Writing: signs, the accents that wait for them, and how often a sign is written (ISO 6937, accents before their
 -- sign; T/CD 6-1, RPT). Which signs take an accent, and how many columns a sign moves on, are this profile's own.
-use Rattle.std.specs.Prelude.{ℕ, zero, suc, Option, Some, None, List, [], ◌∷◌, ◌++◌}
+use Rattle.std.specs.Prelude.{ℕ, zero, suc, Option, Some, None, List, [], ◌∷◌, ◌++◌, unwrap_or}
 use Rattle.cept_codes.specs.declared.attribute.Pen.{Pen}
-use Rattle.cept_codes.specs.declared.attribute.Size.{Size}
+use Rattle.cept_codes.specs.declared.attribute.Size.TheVariants as sizes
 use Rattle.cept_codes.specs.declared.cell.Cell.{Cell}
 use Rattle.cept_codes.specs.declared.cell.What.{What}
 use Rattle.cept_codes.specs.declared.cell.What.TheVariants as whats
@@ -16,7 +16,7 @@ use Rattle.cept_codes.specs.declared.glyph.SetId.TheVariants as sets
 use Rattle.cept_codes.specs.declared.stroke.Stroke.{Stroke}
 use Rattle.cept_codes.specs.declared.stroke.Stroke.TheVariants as strokes
 use Rattle.cept_profile.specs.Motions.{working_ahead, on_strokes}
-use Rattle.cept_profile.specs.Sets.{GraphicResult, graphic}
+use Rattle.cept_profile.specs.Sets.{code_of, read_as, set_of}
 use Rattle.cept_profile.specs.Tiling.{columns_of_size}
 use Rattle.cept_profile.specs.Working.{Working, ControlState, control_with, working_with_sets}
 
@@ -29,14 +29,9 @@ content c1sets.Serial g pen = whats.Serial g
 abbrev pub cell_of : ControlState → Glyph → Cell
 cell_of s g = record { what = content s.working.c1 g s.working.pen; protected = s.working.protect }
 
--- how many columns a sign with this size set takes
-abbrev pub columns_of_set : Option Size → ℕ
-columns_of_set None = 1
-columns_of_set (Some size) = columns_of_size size
-
 -- how many columns a sign moves on: under the parallel set by the pen's size, under the serial by the last size marker
 abbrev pub columns_under : C1Set → Working → ℕ
-columns_under c1sets.Parallel w = columns_of_set w.pen.size
+columns_under c1sets.Parallel w = columns_of_size (unwrap_or w.pen.size sizes.Normal)
 columns_under c1sets.Serial w = w.step
 
 -- how many columns a sign that is written in this state moves on
@@ -89,9 +84,9 @@ strokes_of_read s (reads.Accent code) = []
 strokes_of_read s (reads.Glyph g) = strokes_of_sign s (sign_with_accent g.set g.code s.working.accent)
 
 -- what a graphic byte gives in this state
-abbrev pub graphic_result : ControlState → ℕ → GraphicResult
-graphic_result s byte = graphic s.working.sets byte s.working.run
+abbrev pub graphic_read : ControlState → ℕ → Read
+graphic_read s byte = read_as (set_of s.working.sets byte s.working.run) (code_of byte)
 
--- the state in which the sets took a graphic byte
-abbrev pub control_with_result : ControlState → ℕ → ControlState
-control_with_result s byte = control_with s (working_with_sets (graphic_result s byte).sets s.working)
+-- the state in which what it gave takes effect: a single shift that waited is spent
+abbrev pub control_after_shift : ControlState → ControlState
+control_after_shift s = control_with s (working_with_sets (record s.working.sets { single = None }) s.working)

@@ -1,9 +1,11 @@
 //! Laws of pattern units on the whole list of their bytes.
 ghost use Rattle.std.specs.Prelude.{◌≡◌, ◌≤◌, ◌<◌, ◌+◌, ◌*◌, ℕ, true, false, length, List, [], ◌∷◌};
-ghost use Rattle.std.specs.Prelude.{◌++◌, ◌==◌, nat_lt};
+ghost use Rattle.std.specs.Prelude.{◌++◌, ◌==◌, ◌&&◌, ◌||◌, nat_lt};
 ghost use Rattle.cept_codes.specs.Command.{IsValidForm};
 ghost use Rattle.cept_codes.specs.Look.{IsValidPattern, pixel};
 ghost use Rattle.cept_codes.specs.declared.command.Form.{Form};
+ghost use Rattle.cept_drcs.specs.Block.{blank, part_after_bytes};
+ghost use Rattle.cept_drcs.specs.Cut.{Block, cut};
 ghost use Rattle.cept_drcs.specs.Unit.{is_pattern, pattern, pattern_grows, IsLonger, drawn_pixel};
 
 /// Of a valid form, which has a plane, 3/0 alone begins patterns, and is one.
@@ -20,12 +22,17 @@ pub fn beginnings_of_patterns_are_patterns()
 {}
 
 /// Bytes of a pattern are said to grow exactly where some byte makes longer ones of them, at any
-/// form.
+/// form: where their last block hasn't all its lines, or there is a further plane with an opener.
 pub fn patterns_grow_where_a_byte_fits()
     ensures longer { (f : Form) (a : ℕ) (u : List ℕ) → is_pattern f (a ∷ u) ≡ true
         → pattern_grows f (a ∷ u) ≡ true → IsLonger f (a ∷ u) }
     ensures no_longer { (f : Form) (a : ℕ) (u : List ℕ) (c : ℕ) → is_pattern f (a ∷ u) ≡ true
         → pattern_grows f (a ∷ u) ≡ false → is_pattern f (a ∷ u ++ c ∷ []) ≡ false }
+    ensures last { (f : Form) (u : List ℕ) (bs : List Block) (b : Block)
+        → is_pattern f u ≡ true → (cut u).blocks ≡ bs ++ b ∷ []
+        → pattern_grows f u
+        ≡ (nat_lt (length (part_after_bytes f blank b.bytes).lines) f.h
+        || (nat_lt b.plane 3 && nat_lt (b.plane + 1) f.planes)) }
 {}
 
 /// A pattern has at most an opener for each plane and two bytes for each line of the form, so 100

@@ -4,7 +4,6 @@ use Rattle.cept_parser.specs.declared.context.Context.{Context}
 use Rattle.cept_parser.specs.declared.fit.Fit.{Fit}
 use Rattle.cept_parser.specs.Bytes.{contains}
 use Rattle.cept_parser.specs.Grammar.{standing}
-use Rattle.cept_parser.specs.Fit.{fit}
 
 -- the word for how these bytes stand to the grammar
 abbrev pub word : Context → List ℕ → Fit

@@ -14,7 +14,6 @@ ghost use Rattle.cept_profile.specs.RowsFromAbove.{covering, is_covered_otherwis
 ghost use Rattle.cept_profile.specs.RowsFromAbove.{looks_in, row_from_above};
 ghost use Rattle.cept_profile.specs.State.{Core};
 ghost use Rattle.cept_profile.specs.Tiling.{IsTiled, covers_below, is_covered_from_left, part_at};
-ghost use Rattle.cept_profile.specs.Tiling.{part_below, part_to_the_right};
 
 /// The parts of a core are the one table that is tiled by the sizes of its own cells; each place
 /// shows its part of what stands at its origin, which is on the screen.
@@ -37,15 +36,12 @@ pub fn the_parts_of_a_core_are_the_tiled_ones()
 pub fn looks_come_from_above_or_the_left()
     ensures above { (k : Core) (r c : ℕ) → OnScreen r c
         → IsTrue (covers_below (part_of (look_seen (looks_of k) (r - 1) c)))
-        → look k r c ≡ look_with_part (part_below (part_of (look_seen (looks_of k) (r - 1) c)))
-        (look_seen (looks_of k) (r - 1) c) }
+        → look k r c ≡ record (look_seen (looks_of k) (r - 1) c) { dy = 1 } }
     ensures left { (k : Core) (r c : ℕ) → OnScreen r c
         → IsFalse (covers_below (part_of (look_seen (looks_of k) (r - 1) c)))
         → IsTrue (is_covered_from_left (part_of (look_seen (looks_of k) (r - 1) (c - 1)))
         (part_of (look_seen (looks_of k) r (c - 1))))
-        → look k r c ≡ look_with_part (part_to_the_right (part_of (look_seen (looks_of k) r
-        (c - 1))))
-        (look_seen (looks_of k) r (c - 1)) }
+        → look k r c ≡ record (look_seen (looks_of k) r (c - 1)) { dy = 0; dx = 1 } }
     ensures itself { (k : Core) (r c : ℕ) → OnScreen r c
         → IsFalse (covers_below (part_of (look_seen (looks_of k) (r - 1) c)))
         → IsFalse (is_covered_from_left (part_of (look_seen (looks_of k) (r - 1) (c - 1)))

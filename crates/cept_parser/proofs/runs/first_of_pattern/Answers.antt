@@ -1,12 +1,11 @@
 use Rattle.std.proofs.Common.{◌≡◌, true, ltb, [], ◌∷◌, refl, sym, ◌∙◌}
 use Rattle.std.proofs.lemmas.Bool.{and_parts}
 use Rattle.cept_drcs.specs.Unit.{is_pattern}
-use Rattle.cept_parser.specs.Runs.{pattern_unit, starts_pattern}
+use Rattle.cept_parser.specs.Runs.{starts_pattern}
 use Rattle.cept_parser.proofs.PatternLemmas.{start_grows}
 use Rattle.cept_parser.proofs.runs.first_of_pattern.Goals as goal
 
 pub returns-then-starts_pattern : goal.returns-then-starts_pattern
-unfolding pattern_unit
 returns-then-starts_pattern c =
     let t : starts_pattern c.args.context.now c.args.code c.args.byte ≡ true =
     sym c.starts_pattern.ensures ∙ c.if-starts_pattern.true in

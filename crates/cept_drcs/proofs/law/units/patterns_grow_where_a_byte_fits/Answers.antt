@@ -5,4 +5,5 @@ pub returns : goal.returns
 returns c = record {
   longer = Laws.longer;
   no_longer = Laws.no_longer;
+  last = Laws.grows_by_last;
 }
