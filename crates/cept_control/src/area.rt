@@ -1,8 +1,8 @@
-ghost use Rattle.std.specs.Prelude.{◌≡◌, ◌<◌, ◌++◌, length};
+ghost use Rattle.std.specs.Prelude.{◌≡◌, ◌<◌, ◌++◌, ◌∷◌, [], Some, length};
 ghost use Rattle.cept_codes.specs.Command.{IsArea};
 ghost use Rattle.cept_profile.specs.Control.{area_without, control_effect};
 ghost use Rattle.cept_profile.specs.Motions.{area_in_force, is_first_of, is_last_of};
-ghost use Rattle.cept_profile.specs.Motions.{scroll_under, scrolling_area, strokes_of_scroll};
+ghost use Rattle.cept_profile.specs.Motions.{scrolling_area, strokes_of_scroll};
 
 use crate::control::Control;
 use arrayvec::ArrayVec;
@@ -50,7 +50,7 @@ impl Control {
 
     /// The rows go one row up or down, under the second revision with their attributes.
     fn scroll_under(&self, way: Up, first: u8, last: u8) -> Stroke
-        ensures { result ≡ scroll_under self.now.revision way (first, last) }
+        ensures { result ∷ [] ≡ strokes_of_scroll self.now way (Some (first, last)) }
     {
         if self.revision == 2 {
             Stroke::Carry(first, last, way)

@@ -88,12 +88,7 @@ impl Control {
         ensures valid_strokes { AllByRecursion IsValidStroke strokes.new.items }
         ensures few { length strokes.new.items ≤ 128 }
     {
-        // Of most commands one stroke is left, which is taken without a loop.
-        if strokes.len() == 1 {
-            let _ = strokes.pop();
-        } else {
-            strokes.clear();
-        }
+        strokes.clear();
         self.prepare(command);
         self.take_effect(command, strokes);
     }

@@ -1,23 +1,69 @@
-ghost use Rattle.std.specs.Prelude.{◌≡◌, ◌+◌, ◌≤◌, ◌⊎◌, ◌++◌, length, IfSome};
-ghost use Rattle.cept_codes.specs.Command.{IsGraphic};
+ghost use Rattle.std.specs.Prelude.{◌≡◌, ◌+◌, ◌≤◌, ◌⊎◌, ◌++◌, ◌∷◌, [], None, length, IfSome};
+ghost use Rattle.std.specs.Prelude.{unwrap_or};
+ghost use Rattle.std.specs.Option.{is_some};
+ghost use Rattle.cept_codes.specs.Command.{IsGraphic, IsValidCommand};
 ghost use Rattle.cept_codes.specs.Glyph.{IsValidGlyph};
+ghost use Rattle.cept_control.specs.SignWithin.{is_sign_within};
 ghost use Rattle.cept_control.specs.inside.Taking.{CanTake};
-ghost use Rattle.cept_profile.specs.Control.{control_effect, control_with};
+ghost use Rattle.cept_profile.specs.Control.{control_after, control_effect, control_with};
+ghost use Rattle.cept_profile.specs.Edges.{edges_of};
 ghost use Rattle.cept_profile.specs.Sets.{IsAccent, IsValidRead};
-ghost use Rattle.cept_profile.specs.Strokes.{strokes_when};
+ghost use Rattle.cept_profile.specs.Strokes.{strokes_of, strokes_when};
 ghost use Rattle.cept_profile.specs.Tiling.{columns_of_size};
 ghost use Rattle.cept_profile.specs.Writing.{sign_with_accent, control_after_copies, cell_of};
-ghost use Rattle.cept_profile.specs.Writing.{columns_of_set, columns_of_sign, strokes_of_copies};
-ghost use Rattle.cept_profile.specs.Writing.{graphic_result};
-ghost use Rattle.cept_profile.specs.Writing.{control_with_result, strokes_of_sign};
+ghost use Rattle.cept_profile.specs.Writing.{columns_of_sign, strokes_of_copies};
+ghost use Rattle.cept_profile.specs.Writing.{graphic_read};
+ghost use Rattle.cept_profile.specs.Writing.{control_after_shift, strokes_of_sign};
 ghost use Rattle.cept_profile.specs.Writing.{working_after_sign};
 
 use crate::control::Control;
 use arrayvec::ArrayVec;
-use cept_codes::{C1Set, Cell, Command, Glyph, Read, SetId, Size, Stroke, What};
+use cept_codes::{C1Set, Cell, Command, Glyph, Pos, Read, SetId, Size, Stroke, What};
+
+/// A cell that is put at a place.
+#[derive(Clone, Copy, Debug, PartialEq, Eq)]
+pub struct PutCell {
+    pub place: Pos,
+    pub cell: Cell,
+}
 
 /// Signs, their copies, and whether written cells are protected.
 impl Control {
+    /// Takes a graphic byte that gives a sign which moves on within its row, and answers the cell that
+    /// is put: its only stroke. Any other command is left to `step`.
+    #[inline(always)]
+    pub fn step_sign(&mut self, command: &Command) -> Option<PutCell>
+        requires { IsValidCommand command.now }
+        ensures state { IfSome result (λ put. self.new ≡ control_after self.old command.now) }
+        ensures strokes { IfSome result (λ put. strokes_of self.old command.now
+            ≡ Stroke.Put put.place put.cell ∷ []) }
+        ensures edges { edges_of self.new ≡ edges_of self.old }
+        ensures left { result ≡ None → self.new ≡ self.old }
+        ensures answer { is_some result ≡ is_sign_within self.old command.now }
+    {
+        let Command::Graphic(byte) = command else {
+            return None;
+        };
+        let column = self.working.column + self.columns_of_sign();
+        if column > 40 {
+            return None;
+        }
+        let mut sets = self.working.sets;
+        match sets.graphic(*byte, self.working.run) {
+            Read::Accent(_) => None,
+            Read::Glyph(glyph) => {
+                let sign = sign_with_accent(glyph, self.working.accent);
+                let place = self.active();
+                let cell = self.cell_of(sign);
+                self.working.sets = sets;
+                self.working.column = column;
+                self.working.last = Some(sign);
+                self.working.accent = None;
+                Some(PutCell { place, cell })
+            }
+        }
+    }
+
     pub(crate) fn protection(&mut self, on: bool)
         ensures { self.new ≡ control_effect self.old (Command.Protect on) }
     {
@@ -62,8 +108,8 @@ impl Control {
     /// What a graphic byte gives, by the sets.
     fn take(&mut self, byte: u8) -> Read
         requires { IsGraphic byte }
-        ensures read { result ≡ (graphic_result self.old byte).read }
-        ensures state { self.new ≡ control_with_result self.old byte }
+        ensures read { result ≡ graphic_read self.old byte }
+        ensures state { self.new ≡ control_after_shift self.old }
         ensures valid { IsValidRead result }
     {
         self.working.sets.graphic(byte, self.working.run)
@@ -113,7 +159,7 @@ impl Control {
 
 /// How many columns a sign with this size set takes.
 fn columns_of_set(size: Option<Size>) -> u8
-    ensures columns { result ≡ columns_of_set size }
+    ensures columns { result ≡ columns_of_size (unwrap_or size Size.Normal) }
     ensures few { result ≤ 2 }
 {
     match size {

@@ -20,3 +20,4 @@ pub use bytes::MOST_BYTES;
 pub use cept_codes::Stroke;
 pub use control::Control;
 pub use edges::Edges;
+pub use graphic::PutCell;

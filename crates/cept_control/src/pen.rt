@@ -1,4 +1,4 @@
-ghost use Rattle.std.specs.Prelude.{◌≡◌, ◌≤◌, ◌==◌, ◌||◌, [], true, false, IfSome};
+ghost use Rattle.std.specs.Prelude.{◌≡◌, ◌≤◌, [], true, false, IfSome};
 ghost use Rattle.cept_codes.specs.Attribute.{IsValidAttr, IsValidPen};
 ghost use Rattle.cept_codes.specs.Command.{IsC1, IsValidCommand};
 ghost use Rattle.cept_control.specs.AttributeCode.{is_attribute_code};
@@ -64,9 +64,7 @@ impl Control {
     {
         let attribute = attribute_of(self.working.table, n);
         set_any(attribute, &mut self.working.pen);
-        if is_flash(n) {
-            self.working.fast = 0;
-        }
+        self.working.fast = fast_after_code(n, self.working.fast);
     }
 
     pub(crate) fn flash_mode(&mut self, mode: u8, strokes: &mut ArrayVec<Stroke, 128>)
@@ -100,18 +98,11 @@ impl Control {
     }
 }
 
-/// Whether a C1 code is one of flash. These end the fast flash.
-fn is_flash(n: u8) -> bool
-    ensures { result ≡ (n == 8 || n == 9) }
-{
-    n == 8 || n == 9
-}
-
-/// The fast flash in force after a C1 code.
+/// The fast flash in force after a C1 code: the codes of flash end it.
 fn fast_after_code(n: u8, fast: u8) -> u8
     ensures { result ≡ fast_after_code n fast }
 {
-    if is_flash(n) { 0 } else { fast }
+    if n == 8 || n == 9 { 0 } else { fast }
 }
 
 /// The attribute of a C1 code with a colour table.

@@ -13,7 +13,7 @@ ghost use Rattle.cept_repaint.specs.GridGlass.{grid_glass_state};
 use crate::phases::{flashes_seen, look_at_phase, next_phase, turns};
 use arrayvec::ArrayVec;
 use cept_codes::{Flash, Look, NoMemory, Pos};
-use cept_repaint::{Glass, GridGlass, Marks, Screen};
+use cept_repaint::{Glass, GridGlass, Marks, Screen, shown_look};
 use std::alloc::Global;
 use std::marker::Model;
 
@@ -109,7 +109,7 @@ impl Blink {
     {
         // That the place is on the screen is known to the prover by its row.
         let _row = at.row();
-        look_at_phase(&self.kept.shown(at), self.phase)
+        look_at_phase(&shown_look(&self.kept, at), self.phase)
     }
 }
 
@@ -147,7 +147,7 @@ fn mark_shown(kept: &GridGlass, marks: &mut Marks)
     marks.clear();
     for n in 0..960u16 {
         let at = Pos::from_number(n).unwrap();
-        if !is_blank(&look_at_phase(&kept.shown(at), 0)) {
+        if !is_blank(&look_at_phase(&shown_look(kept, at), 0)) {
             marks.mark(at);
         }
     }

@@ -16,8 +16,7 @@ use Rattle.cept_parser.specs.Grammar.{unit, grows, repetition}
 use Rattle.cept_parser.specs.Items.{closed_items, commands, is_refusal}
 use Rattle.cept_parser.specs.ReadsAs.{Reads, all_said}
 use Rattle.cept_parser.specs.Runs.{colour, table_entry}
-use Rattle.cept_parser.specs.Units.{us_unit, us_grows, us_position, colour_unit, colour_start, colours_from}
-use Rattle.cept_parser.specs.Units.{service_unit, service}
+use Rattle.cept_parser.specs.Units.{us_unit, us_grows, us_position, colour_unit, colour_start, service_unit}
 use Rattle.cept_parser.proofs.EndedUnitLemmas.{said_whole}
 use Rattle.cept_parser.proofs.ReadsLemmas.{reads_nothing, reads_joined, said_start, no_refusals, commands_are}
 use Rattle.cept_generator.specs.Generated.{draw, colour_bytes, colour_commands, unit_bytes, unit_commands}
@@ -71,7 +70,7 @@ in_run e = with_mode start_context (TableRun e)
 
 start_reads : (e : ℕ) → e < 32
     → Reads start_context (0x1F ∷ 0x26 ∷ (0x30 + e / 10) ∷ (0x30 + e % 10) ∷ []) (command.ColourStart e ∷ []) (in_run e)
-unfolding unit us_unit colour_unit colour_start colours_from grows us_grows
+unfolding unit us_unit colour_unit colour_start grows us_grows
 start_reads e l = one_reads start_context (in_run e) _ _ (grind (arith, nat_tests)) (grind (arith, nat_tests))
 
 value_reads : (e a b : ℕ) → e < 32 → a < 64 → b < 64
@@ -94,7 +93,7 @@ unfolding unit one_byte grows
 cancel_reads = one_reads start_context start_context _ _ refl refl
 
 head_reads : Read head_bytes (command.FullDefaults Parallel ∷ [])
-unfolding unit us_unit service_unit service grows us_grows
+unfolding unit us_unit service_unit grows us_grows
 head_reads = one_reads start_context start_context _ _ refl refl
 
 -- ---- the page

@@ -12,20 +12,13 @@ ghost use Rattle.cept_redraw.specs.inside.Due.{AreCompared, followed, has_others
 ghost use Rattle.cept_redraw.specs.Resolved.{defines};
 
 use crate::followed_rows::{Followed, one_defines};
-use cept_codes::{Cell, Pos, Row, Stroke};
-use cept_control::Edges;
+use cept_codes::{Row, Stroke};
+use cept_control::{Edges, PutCell};
 use cept_page::{Page, Pens};
-
-/// A cell that is put at a place, where it stands.
-#[derive(Clone, Copy)]
-pub(crate) struct PutCell<'a> {
-    pub(crate) place: Pos,
-    pub(crate) cell: &'a Cell,
-}
 
 /// The cell that is put, where that is the only stroke.
 pub(crate) fn only_put(strokes: &[Stroke]) -> Option<PutCell>
-    ensures { IfSome result (λ put. strokes.now ≡ Stroke.Put put.place put.cell.now ∷ []) }
+    ensures { IfSome result (λ put. strokes.now ≡ Stroke.Put put.place put.cell ∷ []) }
 {
     if strokes.len() != 1 {
         return None;
@@ -33,7 +26,7 @@ pub(crate) fn only_put(strokes: &[Stroke]) -> Option<PutCell>
     match &strokes[0] {
         Stroke::Put(place, cell) => Some(PutCell {
             place: *place,
-            cell,
+            cell: *cell,
         }),
         _ => None,
     }

@@ -23,7 +23,7 @@ ghost use Rattle.cept_redraw.specs.inside.Kept.{OthersStay, look_alone, is_other
 ghost use Rattle.cept_redraw.specs.Marks.{no_marks};
 ghost use Rattle.cept_redraw.specs.inside.Named.{AreAllKnown, AreJustRemembered, IsUnmarkedBelow};
 ghost use Rattle.cept_redraw.specs.Picture.{AreDrawable, AreTicksOf, IsKeptOn, IsNotedAlong, IsRedrawn};
-ghost use Rattle.cept_redraw.specs.Picture.{IsRedrawnAlong, MayBeRedrawn};
+ghost use Rattle.cept_redraw.specs.Picture.{IsRedrawnAlong, MayBeRedrawn, put_alone};
 ghost use Rattle.cept_redraw.specs.inside.Picture.{AreRowsRedrawn, IsRefreshedOn, MayBeRefreshedDown};
 ghost use Rattle.cept_redraw.specs.inside.Picture.{just_row};
 ghost use Rattle.cept_redraw.specs.Resolved.{one_else};
@@ -38,7 +38,7 @@ use crate::picture::Picture;
 use crate::redefined_rows::rows_redefined;
 use crate::resolved_rows::row_source;
 use cept_codes::{Pos, Row, Stroke};
-use cept_control::{Control, Edges};
+use cept_control::{Control, Edges, PutCell};
 use cept_delta::Noter;
 use cept_outside::Steps;
 use cept_page::Page;
@@ -92,31 +92,49 @@ impl Picture {
         ensures noted { IsNotedAlong strokes.now (N.noted noter.old) self.old.page (N.noted noter.new)
             self.new.page }
     {
+        if let Some(put) = only_put(strokes) {
+            self.redraw_put(&put, control, marks, noter, steps);
+            return;
+        }
         marks.clear();
         if strokes.is_empty() {
             return;
         }
-        match only_put(strokes) {
-            Some(put) => {
-                // A law: a cell shows in no place to its left.
-                rows_show_what_stands_to_the_left();
-                // Another: a place shows what is beside it.
-                places_show_what_is_beside_them();
-                let among = self.page.puts_among_signs(put.place, put.cell);
-                if self.page.put(put.place, put.cell, noter) {
-                    self.refresh_place(put.place, marks, steps);
-                } else {
-                    let row = put.place.row();
-                    let from = put.place.col();
-                    let until = last_otherwise(from, among);
-                    let edges = control.edges();
-                    self.refresh_put(row, from, until, &edges, marks, steps);
-                }
-            }
-            None => {
-                let within = control.edges();
-                self.redraw_drawn(strokes, &within, marks, noter, steps);
-            }
+        let within = control.edges();
+        self.redraw_drawn(strokes, &within, marks, noter, steps);
+    }
+
+    /// The same where one cell is put, which is the only stroke.
+    pub fn redraw_put<N: Noter, L: Ledger>(
+        &mut self,
+        put: &PutCell,
+        control: &Control,
+        marks: &mut Marks,
+        noter: &mut N,
+        steps: &mut Steps<L>,
+    )
+        requires kept { IsKeptOn self.old (edges_of control.now) }
+        requires strokes { AreDrawable (put_alone put.now) self.old.page }
+        ensures redrawn { IsRedrawn (put_alone put.now) (edges_of control.now) self.old self.new marks.new }
+        ensures ticks { AreTicksOf (put_alone put.now) (edges_of control.now) (edges_of control.now) self.old
+            self.new steps.old steps.new }
+        ensures noted { IsNotedAlong (put_alone put.now) (N.noted noter.old) self.old.page (N.noted noter.new)
+            self.new.page }
+    {
+        marks.clear();
+        // A law: a cell shows in no place to its left.
+        rows_show_what_stands_to_the_left();
+        // Another: a place shows what is beside it.
+        places_show_what_is_beside_them();
+        let among = self.page.puts_among_signs(put.place, &put.cell);
+        if self.page.put(put.place, &put.cell, noter) {
+            self.refresh_place(put.place, marks, steps);
+        } else {
+            let row = put.place.row();
+            let from = put.place.col();
+            let until = last_otherwise(from, among);
+            let edges = control.edges();
+            self.refresh_put(row, from, until, &edges, marks, steps);
         }
     }
 

@@ -1,7 +1,9 @@
 mod AppliedCommands
 mod ArrayRows
+mod CommandsInTurn
 mod KeptAfter
 mod KeptPictures
+pub mod Laws
 mod LooksSeen
 mod LowMoves
 mod MixedCommands

@@ -26,7 +26,7 @@ use Rattle.cept_profile.specs.Motions.{is_first_of, is_last_of, scrolling_area}
 use Rattle.cept_profile.specs.MovedRows.{MovedRows, moved_rows, row_before, row_before_move, row_within}
 use Rattle.cept_profile.specs.Pens.{attribute_of, flash_of, strokes_of_function}
 use Rattle.cept_profile.specs.Strokes.{strokes_of, strokes_when}
-use Rattle.cept_profile.specs.Writing.{control_after_copies, graphic_result, sign_with_accent, strokes_of_copies, strokes_of_read}
+use Rattle.cept_profile.specs.Writing.{control_after_copies, graphic_read, sign_with_accent, strokes_of_copies, strokes_of_read}
 use Rattle.cept_profile.specs.Writing.{strokes_of_repeat, strokes_of_sign}
 use Rattle.cept_profile.proofs.Laws.{strokes_of_copies-more, strokes_of_copies-none}
 
@@ -208,7 +208,7 @@ low s commands.Forward = low-up _ (up-on s 1)
 low s commands.Down = low-up _ (up-below s s.working.row)
 low s commands.Up = low-above s s.working.row
 low s commands.Clear = low-up _ refl
-low s (commands.Graphic byte) = low-up _ (up-read s (graphic_result s byte).read)
+low s (commands.Graphic byte) = low-up _ (up-read s (graphic_read s byte))
 low s (commands.Repeat n) = low-up _ (up-repeat n s s.working.last)
 low s commands.Cancel = low-up _ refl
 low s (commands.C1 n) = low-up _ (up-function s.working.c1 (marker_of s.working.table n) s)

@@ -31,7 +31,7 @@ use Rattle.cept_codes.specs.declared.glyph.Read.{Read}
 use Rattle.cept_codes.specs.declared.glyph.Read.TheVariants as reads
 use Rattle.cept_profile.specs.State.{Core, State, core_of, state_after}
 use Rattle.cept_profile.specs.Strokes.{strokes_of, strokes_when}
-use Rattle.cept_profile.specs.Writing.{control_after_copies, graphic_result, sign_with_accent, strokes_of_copies, strokes_of_read}
+use Rattle.cept_profile.specs.Writing.{control_after_copies, graphic_read, sign_with_accent, strokes_of_copies, strokes_of_read}
 use Rattle.cept_profile.specs.Writing.{strokes_of_repeat, strokes_of_sign}
 use Rattle.cept_profile.proofs.Laws.{is_reached-by, reaches-by, rows_in_reach-counted, strokes_of_copies-more}
 use Rattle.cept_profile.proofs.Laws.{strokes_of_copies-none}
@@ -136,7 +136,7 @@ kind s commands.Forward = inl (none-on s 1)
 kind s commands.Down = inl (none-below s s.working.row)
 kind s commands.Up = inl (none-above s s.working.row)
 kind s commands.Clear = inl refl
-kind s (commands.Graphic byte) = inl (none-read s (graphic_result s byte).read)
+kind s (commands.Graphic byte) = inl (none-read s (graphic_read s byte))
 kind s (commands.Repeat n) = inl (none-repeat n s s.working.last)
 kind s commands.Cancel = inl refl
 kind s (commands.C1 n) = inl (none-function s.working.c1 (marker_of s.working.table n) s)

@@ -1,5 +1,4 @@
 ghost use Rattle.std.specs.Prelude.{◌≡◌, ◌≤◌, length};
-ghost use Rattle.cept_codes.specs.Look.{IsValidLook};
 ghost use Rattle.cept_profile.specs.Changes.{look_at};
 ghost use Rattle.cept_profile.specs.Look.{looks_of};
 ghost use Rattle.cept_profile.specs.State.{core_of};
@@ -35,8 +34,7 @@ pub trait Glass {
 
     /// The look that is shown at a place.
     fn shown(&self, at: Pos) -> Look
-        ensures look { result ≡ look_at (state self.now).grid at }
-        ensures valid { IsValidLook result };
+        ensures look { result ≡ look_at (state self.now).grid at };
 
     /// Every place shows a valid look.
     ghost valid: { (glass : Self) → IsValidGrid (state glass).grid };

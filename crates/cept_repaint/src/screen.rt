@@ -235,6 +235,26 @@ impl Screen {
         ensures { IsWrittenAlong self.old command.now self.new marks.new steps.old steps.new (N.noted noter.old)
             (N.noted noter.new) }
     {
+        match self.control.step_sign(command) {
+            Some(put) => self
+                .picture
+                .redraw_put(&put, &self.control, marks, noter, steps),
+            None => self.write_strokes(command, marks, noter, steps),
+        }
+    }
+
+    /// The same of any command, with its strokes in a list.
+    fn write_strokes<N: Noter, L: Ledger>(
+        &mut self,
+        command: &Command,
+        marks: &mut Marks,
+        noter: &mut N,
+        steps: &mut Steps<L>,
+    )
+        requires { IsValidCommand command.now }
+        ensures { IsWrittenAlong self.old command.now self.new marks.new steps.old steps.new (N.noted noter.old)
+            (N.noted noter.new) }
+    {
         if may_move_edges(command) {
             self.write_edges(command, marks, noter, steps);
             return;

@@ -6,7 +6,7 @@ use Rattle.cept_codes.specs.declared.attribute.Pen.{Pen}
 use Rattle.cept_codes.specs.declared.cell.What.{What}
 use Rattle.cept_profile.specs.Definitions.{Definitions}
 use Rattle.cept_profile.specs.Look.{look_in_row, look_with_part, part_of, shape_of}
-use Rattle.cept_profile.specs.Tiling.{covers_right, origin_part, part_below, part_to_the_right}
+use Rattle.cept_profile.specs.Tiling.{covers_right, origin_part}
 use Rattle.cept_rows.specs.declared.small_look.SmallLook.{SmallLook}
 use Rattle.cept_rows.specs.SmallLooks.{small_of}
 use Rattle.cept_rows.specs.inside.SmallLooks.{drawing_of}
@@ -18,15 +18,18 @@ with_part : (l : Look) (s : SmallLook) (p q : Part) → s ≡ small_of l → p �
 with_part l s p q e is i = record (e i) { part = is i }
 
 -- one place down
-pub below_is : (a : Look) (s : SmallLook) (p : Part) → s ≡ small_of a → p ≡ part_below s.part
-    → (let t : SmallLook = record s { part = p } in t) ≡ small_of (look_with_part (part_below (part_of a)) a)
-below_is a s p e is = with_part a s p (part_below (part_of a)) e (is ∙ ap (λ (x : SmallLook). part_below x.part) e)
+pub below_is : (a : Look) (s : SmallLook) (p : Part) → s ≡ small_of a → p ≡ record s.part { dy = 1 }
+    → (let t : SmallLook = record s { part = p } in t) ≡ small_of (look_with_part (record (part_of a) { dy = 1 }) a)
+below_is a s p e is =
+    with_part a s p (record (part_of a) { dy = 1 }) e (is ∙ ap (λ (x : SmallLook). let q : Part = record x.part { dy = 1 } in q) e)
 
 -- one place to the right
-pub right_is : (l : Look) (s : SmallLook) (p : Part) → s ≡ small_of l → p ≡ part_to_the_right s.part
-    → (let t : SmallLook = record s { part = p } in t) ≡ small_of (look_with_part (part_to_the_right (part_of l)) l)
+pub right_is : (l : Look) (s : SmallLook) (p : Part) → s ≡ small_of l → p ≡ record s.part { dy = 0; dx = 1 }
+    → (let t : SmallLook = record s { part = p } in t)
+    ≡ small_of (look_with_part (record (part_of l) { dy = 0; dx = 1 }) l)
 right_is l s p e is =
-    with_part l s p (part_to_the_right (part_of l)) e (is ∙ ap (λ (x : SmallLook). part_to_the_right x.part) e)
+    with_part l s p (record (part_of l) { dy = 0; dx = 1 }) e
+    (is ∙ ap (λ (x : SmallLook). let q : Part = record x.part { dy = 0; dx = 1 } in q) e)
 
 -- the upper left part
 pub origin_is : (o shown : Look) (s : SmallLook) (p : Part) → s ≡ small_of o → look_with_part p o ≡ shown

@@ -23,7 +23,7 @@ use Rattle.cept_profile.specs.Look.{shape_in, shape_of, size_in_row}
 use Rattle.cept_profile.specs.RowsFromAbove.{look_by, look_from}
 use Rattle.cept_profile.specs.Serial.{acts_there, held_sign, is_marker, own_attributes_of, row_in, serial_attributes}
 use Rattle.cept_profile.specs.Tiling.{column_entry, covers_below, covers_right, is_covered_from_left, is_high}
-use Rattle.cept_profile.specs.Tiling.{is_wide, origin_part, part_below, part_to_the_right, single_part}
+use Rattle.cept_profile.specs.Tiling.{is_wide, origin_part, single_part}
 use Rattle.cept_profile.proofs.Laws.{influence-start, influence-suc, serial_attributes-suc, in_plain, unmarked}
 use Rattle.cept_rows.specs.declared.small_look.SmallLook.{SmallLook}
 use Rattle.cept_rows.specs.SmallLooks.{small_of}
@@ -185,7 +185,7 @@ look_by-alone : (a al ar l own : Look) (size : Size) (last : Bool) (c : ℕ) →
 look_by-alone a al ar l own size last c above left normal single =
     alone_tests (covers_below (part_of a)) (is_covered_from_left (part_of al) (part_of l))
     (is_wide size && ltb c 40 && not (covers_below (part_of ar))) (is_high size && not last)
-    (look_with_part (part_below (part_of a)) a) (look_with_part (part_to_the_right (part_of l)) l) own above
+    (look_with_part (record (part_of a) { dy = 1 }) a) (look_with_part (record (part_of l) { dy = 0; dx = 1 }) l) own above
     (and_false (not (covers_below (part_of al))) (covers_right (part_of l)) left)
     (ap (λ s. is_wide s && ltb c 40 && not (covers_below (part_of ar))) normal) (ap (λ s. is_high s && not last) normal)
     single

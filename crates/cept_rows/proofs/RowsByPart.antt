@@ -19,7 +19,7 @@ use Rattle.cept_profile.specs.Look.{look_in_row, look_with_part, part_of, size_i
 use Rattle.cept_profile.specs.RowsFromAbove.{look_by, look_from, row_from_above}
 use Rattle.cept_profile.specs.Serial.{own_attributes, own_attributes_of, row_in, serial_attributes}
 use Rattle.cept_profile.specs.Tiling.{column_entry, covers_below, covers_right, is_covered_from_left, is_high, is_wide}
-use Rattle.cept_profile.specs.Tiling.{origin_part, part_below, part_to_the_right, single_part}
+use Rattle.cept_profile.specs.Tiling.{origin_part, single_part}
 use Rattle.cept_profile.specs.Valid.{AreValidDefinitions}
 use Rattle.cept_profile.proofs.Laws.{IsValidLook-look_in_row, IsValidLook-row_from_above}
 use Rattle.cept_profile.proofs.Laws.{look_in_row-alike, size_in_row-alike}
@@ -48,7 +48,7 @@ look_from-at above own wanted last (suc c) low =
 -- beneath one that covers it
 pub look_from-below : (above own : ℕ → Look) (wanted : ℕ → Size) (last : Bool) (c : ℕ) → 1 ≤ c
     → covers_below (part_of (above c)) ≡ true
-    → look_with_part (part_below (part_of (above c))) (above c) ≡ look_from above own wanted last c
+    → look_with_part (record (part_of (above c)) { dy = 1 }) (above c) ≡ look_from above own wanted last c
 look_from-below above own wanted last c low covered =
     sym (look_from-at above own wanted last c low ∙ cond-true _ _ _ covered)
 
@@ -56,9 +56,9 @@ look_from-below above own wanted last c low covered =
 pub look_from-right : (above own : ℕ → Look) (wanted : ℕ → Size) (last : Bool) (c : ℕ) (left : Look) → 1 ≤ c
     → covers_below (part_of (above c)) ≡ false → left ≡ look_from above own wanted last (c - 1)
     → is_covered_from_left (part_of (above (c - 1))) (part_of (look_from above own wanted last (c - 1))) ≡ true
-    → look_with_part (part_to_the_right (part_of left)) left ≡ look_from above own wanted last c
+    → look_with_part (record (part_of left) { dy = 0; dx = 1 }) left ≡ look_from above own wanted last c
 look_from-right above own wanted last c left low uncovered is covered =
-    ap (λ l. look_with_part (part_to_the_right (part_of l)) l) is
+    ap (λ l. look_with_part (record (part_of l) { dy = 0; dx = 1 }) l) is
     ∙ sym (look_from-at above own wanted last c low ∙ cond-false _ _ _ uncovered ∙ cond-true _ _ _ covered)
 
 -- what nothing covers
@@ -115,12 +115,12 @@ look_from-alike defined above beside f g pen screen last (suc c) over alike =
 uncovered_from_left : (above above_left above_right left own : Look) (size : Size) (last : Bool) (c : ℕ)
     → covers_right (part_of left) ≡ false
     → look_by above above_left above_right left own size last c
-    ≡ cond (covers_below (part_of above)) (look_with_part (part_below (part_of above)) above)
+    ≡ cond (covers_below (part_of above)) (look_with_part (record (part_of above) { dy = 1 }) above)
     (look_with_part (origin_part (is_wide size && ltb c 40 && not (covers_below (part_of above_right)))
     (is_high size && not last)) own)
 uncovered_from_left above above_left above_right left own size last c none =
-    ap (λ b. cond (covers_below (part_of above)) (look_with_part (part_below (part_of above)) above)
-    (cond b (look_with_part (part_to_the_right (part_of left)) left)
+    ap (λ b. cond (covers_below (part_of above)) (look_with_part (record (part_of above) { dy = 1 }) above)
+    (cond b (look_with_part (record (part_of left) { dy = 0; dx = 1 }) left)
     (look_with_part (origin_part (is_wide size && ltb c 40 && not (covers_below (part_of above_right)))
     (is_high size && not last)) own)))
     (and_right (not (covers_below (part_of above_left))) (covers_right (part_of left)) none)
@@ -142,7 +142,7 @@ look_from-beside above over own other wanted asked last c low near eo ew covered
           λ i. look_by (here i) (before i) (next i) (same i) (eo i) (ew i) last c
       | inr none ↦
           uncovered_from_left (above c) (above (c - 1)) (above (c + 1)) left (own c) (wanted c) last c none.0
-          ∙ (λ i. cond (covers_below (part_of (here i))) (look_with_part (part_below (part_of (here i))) (here i))
+          ∙ (λ i. cond (covers_below (part_of (here i))) (look_with_part (record (part_of (here i)) { dy = 1 }) (here i))
           (look_with_part (origin_part (is_wide (ew i) && ltb c 40 && not (covers_below (part_of (next i))))
           (is_high (ew i) && not last)) (eo i)))
           ∙ sym (uncovered_from_left (over c) (over (c - 1)) (over (c + 1)) beside (other c) (asked c) last c none.1)

@@ -2,6 +2,7 @@
 use Rattle.std.proofs.Common.{◌≡◌, ℕ, ◌&&◌, ◌==◌, Bool, true, false, cond, Option, Some, None, IfSome}
 use Rattle.std.proofs.Common.{List, not, refl}
 use Rattle.std.proofs.Common.{sym, ap, ◌∙◌, subst}
+use Rattle.std.specs.Prelude.{option_and_then}
 use Rattle.std.proofs.lemmas.Bool.{cond_both}
 use Rattle.cept_codes.specs.declared.attribute.Full.{Full}
 use Rattle.cept_codes.specs.declared.attribute.Pen.{Pen}
@@ -15,12 +16,12 @@ use Rattle.cept_codes.specs.declared.look.Pattern.{Pattern}
 use Rattle.cept_codes.specs.declared.look.Shape.TheVariants as shapes
 use Rattle.cept_codes.specs.Cell.{IsValidWhat}
 use Rattle.cept_profile.specs.Definitions.{Definitions}
-use Rattle.cept_profile.specs.Look.{look_in_row, look_of, look_with, shape_by_pattern, shape_in}
+use Rattle.cept_profile.specs.Look.{look_in_row, look_of, look_with, shape_in}
 use Rattle.cept_profile.specs.Look.{shape_in_set, shape_of}
 use Rattle.cept_profile.specs.Look.{shape_of_sign}
 use Rattle.cept_profile.specs.PageParts.{pattern_in}
 use Rattle.cept_profile.specs.Serial.{held_sign, is_holding, is_marker, is_mosaic, is_sized_since, kept_sign, mosaic_of}
-use Rattle.cept_profile.specs.Serial.{nearest_column, value_found}
+use Rattle.cept_profile.specs.Serial.{nearest_column}
 use Rattle.cept_profile.specs.Valid.{AreValidDefinitions}
 use Rattle.cept_profile.proofs.Laws.{IsValidLook-look_of}
 use Rattle.cept_rows.specs.declared.drawing.Drawing.{Drawing}
@@ -34,12 +35,13 @@ use Rattle.cept_rows.proofs.KeptLooks.{kept_is, small_is}
 -- ---- signs
 
 in_set_plain : (defined : Definitions) (g : Glyph) (s : SetId)
-    → cond (is_set_d s) (pattern_in defined.patterns g.code) None ≡ None → shape_in_set defined g s ≡ shapes.Char g
+    → cond (is_set_d s) (pattern_in defined.patterns g.code) None ≡ None
+    → shape_in_set defined g s (pattern_in defined.patterns g.code) ≡ shapes.Char g
 in_set_plain defined g sets.P e = refl
 in_set_plain defined g sets.S e = refl
 in_set_plain defined g sets.M e = refl
 in_set_plain defined g sets.N e = refl
-in_set_plain defined g sets.D e = ap (shape_by_pattern defined g) e
+in_set_plain defined g sets.D e = ap (shape_in_set defined g sets.D) e
 
 -- a sign without a pattern is drawn as itself
 sign_plain : (defined : Definitions) (g : Glyph) → pattern_of_sign defined.patterns g ≡ None
@@ -67,7 +69,7 @@ mosaic_other (whats.Serial g) =
 mosaic_other (whats.Parallel g pen) = tt
 mosaic_other (whats.Marker m) = tt
 
-found_other : (f : ℕ → Option Glyph) (o : Option ℕ) → ((d : ℕ) → IsOther (f d)) → IsOther (value_found f o)
+found_other : (f : ℕ → Option Glyph) (o : Option ℕ) → ((d : ℕ) → IsOther (f d)) → IsOther (option_and_then f o)
 found_other f None each = tt
 found_other f (Some d) each = each d
 

@@ -75,7 +75,7 @@ fn make_edits<L: Ledger>(alloc: Global, blank: Blank, text: &[u8]) -> Result<Lef
     Ok(left)
 }
 
-/// A pen that was taken back is gone, and one that was made again is there.
+/// A pen that was undone is gone, and one that was redone is there.
 #[test]
 fn an_undo_and_a_redo_bring_back_the_pen(rt: HostRuntime) -> Result<(), Fail> {
     let text = b"c1 1\nundo\nredo\ntext A".as_slice();

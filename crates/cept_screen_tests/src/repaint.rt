@@ -1,4 +1,4 @@
-//! The screen: what is noted, taken back and painted.
+//! The screen: what is noted, put back and painted.
 
 ghost use Rattle.std.specs.Prelude.{◌≡◌, ◌<◌};
 
@@ -21,8 +21,8 @@ fn told(alloc: Global, glass: &TapeGlass) -> Result<Vec<(u8, u8, Look)>, NoMemor
     Ok(paints)
 }
 
-/// An A that is cleared away and a B in its place, both noted and taken back, and then a C.
-fn taken_back<L: Ledger>(alloc: Global, blank: Blank) -> Result<TapeGlass, NoMemory>
+/// An A that is cleared away and a B in its place, both noted and put back, and then a C.
+fn put_back<L: Ledger>(alloc: Global, blank: Blank) -> Result<TapeGlass, NoMemory>
     requires name { blank.name ≡ L.name }
     requires parts { blank.parts ≡ L.parts }
     requires some { 0 < blank.parts }
@@ -46,8 +46,8 @@ fn taken_back<L: Ledger>(alloc: Global, blank: Blank) -> Result<TapeGlass, NoMem
 }
 
 #[test]
-fn what_was_noted_is_taken_back(rt: HostRuntime) -> Result<(), Fail> {
-    let glass = taken_back::<Brand>(rt.alloc(), Blank::new(1))?;
+fn what_was_noted_is_put_back(rt: HostRuntime) -> Result<(), Fail> {
+    let glass = put_back::<Brand>(rt.alloc(), Blank::new(1))?;
     let paints = told(rt.alloc(), &glass)?;
     let wanted = [
         (1, 1, sign(0x41)),

@@ -1,4 +1,4 @@
-//! An edit of a screen that is taken back and made again.
+//! An edit of a screen that is undone and redone.
 
 ghost use Rattle.std.specs.Prelude.{◌≡◌, ◌<◌};
 
@@ -12,8 +12,8 @@ use std::marker::Brand;
 use std::sync::ledger::{Blank, Ledger};
 use std::test::Fail;
 
-/// An edit that writes an A, which is taken back and made again, and one more redo.
-fn made_again<L: Ledger>(
+/// An edit that writes an A, which is undone and redone, and one more redo.
+fn undone_and_redone<L: Ledger>(
     alloc: Global,
     blank: Blank,
 ) -> Result<(GridGlass, Redone, Redone), NoMemory>
@@ -37,8 +37,8 @@ fn made_again<L: Ledger>(
 }
 
 #[test]
-fn a_redo_makes_an_edit_again(rt: HostRuntime) -> Result<(), Fail> {
-    let (glass, first, second) = made_again::<Brand>(rt.alloc(), Blank::new(1))?;
+fn a_redo_brings_an_edit_back(rt: HostRuntime) -> Result<(), Fail> {
+    let (glass, first, second) = undone_and_redone::<Brand>(rt.alloc(), Blank::new(1))?;
     assert!(rt; first == Redone::Redone);
     assert!(rt; second == Redone::Nothing);
     assert!(rt; glass.shown(Pos::new(1, 1).ok_or("no place")?) == sign(0x41));

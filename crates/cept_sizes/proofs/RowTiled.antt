@@ -12,7 +12,7 @@ use Rattle.cept_codes.specs.Table.{HasMadeEntries, entry, row_of}
 use Rattle.cept_codes.proofs.Laws.{HasMadeEntries-none, HasMadeEntries-more, HasMadeEntries-all, row_of-list_by_index}
 use Rattle.cept_profile.specs.Tiling.{column_entry, flat_parts, covers_below, covers_right, is_covered_from_left}
 use Rattle.cept_profile.specs.Tiling.{is_high, is_wide, origin_part}
-use Rattle.cept_profile.specs.Tiling.{part_below, part_by, part_from, part_to_the_right, single_part, tiled_row}
+use Rattle.cept_profile.specs.Tiling.{part_by, part_from, single_part, tiled_row}
 
 -- column k + 1 stands at the index k, whichever value the reading gives outside
 pub column_entry-index : {X : Type 0} (d e : X) (row : List X) (k : ℕ) → k < length row
@@ -56,7 +56,7 @@ pub record IsMade (above wanted p : Part) (across high : Bool) : Type 0 where
 
 -- beneath a part that covers the place
 pub IsMade-below : (a al ar l p : Part) (size : Size) (last high : Bool) (c : ℕ) → covers_below a ≡ true
-    → p ≡ part_below a → IsMade a (part_by a al ar l size last c) p false high
+    → p ≡ record a { dy = 1 } → IsMade a (part_by a al ar l size last c) p false high
 IsMade-below a al ar l p size last high c covered is = record {
   part = is ∙ sym (cond-true _ _ _ covered);
   covers = sym (ap (λ b. not b && covers_right p) covered);
@@ -65,10 +65,12 @@ IsMade-below a al ar l p size last high c covered is = record {
 
 -- to the right of an origin that covers the place
 pub IsMade-right : (a al ar l p : Part) (size : Size) (last high next : Bool) (c : ℕ) → covers_below a ≡ false
-    → IsMade al l l true high → p ≡ part_to_the_right (origin_part true high)
+    → IsMade al l l true high → p ≡ record (origin_part true high) { dy = 0; dx = 1 }
     → IsMade a (part_by a al ar l size last c) p false next
 IsMade-right a al ar l p size last high next c uncovered left is = record {
-  part = is ∙ sym (ap part_to_the_right (left.origin refl)) ∙ sym (cond-true _ _ _ (sym left.covers))
+  part =
+      is ∙ sym (ap (λ (p : Part). let q : Part = record p { dy = 0; dx = 1 } in q) (left.origin refl))
+      ∙ sym (cond-true _ _ _ (sym left.covers))
       ∙ sym (cond-false _ _ _ uncovered);
   covers = sym (λ i. not (uncovered i) && covers_right (is i));
   origin = λ on. absurd (false≢true on);

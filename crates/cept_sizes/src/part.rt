@@ -1,6 +1,6 @@
 ghost use Rattle.std.specs.Prelude.{◌≡◌, ◌&&◌, nat_lt, not};
 ghost use Rattle.cept_profile.specs.Tiling.{covers_below, is_high, is_wide};
-ghost use Rattle.cept_profile.specs.Tiling.{origin_part, part_below, part_to_the_right};
+ghost use Rattle.cept_profile.specs.Tiling.{origin_part};
 
 use cept_codes::{Part, Size};
 
@@ -74,7 +74,7 @@ pub fn origin_there(size: Size, column: u8, beside: bool, last: bool) -> Part
 /// The same part, one place down.
 #[inline(always)]
 pub fn below(part: Part) -> Part
-    ensures { result ≡ part_below part }
+    ensures { result ≡ record part { dy = 1 } }
 {
     Part { dy: 1, ..part }
 }
@@ -82,7 +82,7 @@ pub fn below(part: Part) -> Part
 /// The upper part one place to the right.
 #[inline(always)]
 pub fn to_the_right(part: Part) -> Part
-    ensures { result ≡ part_to_the_right part }
+    ensures { result ≡ record part { dy = 0; dx = 1 } }
 {
     Part {
         dy: 0,

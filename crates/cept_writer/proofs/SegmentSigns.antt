@@ -1,19 +1,21 @@
 -- The signs of a segment are put one after the other, and control stays in the segment.
 use Rattle.std.proofs.Common.{◌≡◌, ℕ, zero, suc, ◌+◌, ◌*◌, ◌≤◌, Bool, true, false, cond, eqb, leb, Option, None, Some}
 use Rattle.std.proofs.Common.{List, [], ◌∷◌, ◌++◌, length, map, refl, sym, ap, ◌∙◌, subst, inl, inr, arith}
-use Rattle.std.specs.Prelude.{IsTrue, ◌↔◌}
+use Rattle.std.specs.Prelude.{IsTrue, ◌↔◌, unwrap_or}
 use Rattle.std.proofs.lemmas.Bool.{le-leb, leb-true}
 use Rattle.std.proofs.lemmas.Bool.Decides.{nat_tests}
 use Rattle.std.proofs.lemmas.List.{append-nil, length-append, length-map, map-append}
 use Rattle.std.proofs.Math.Nat.{zero-mul}
 use Rattle.std.specs.List.{AllByRecursion, flat_map}
 use Rattle.cept_codes.specs.declared.attribute.Pen.{Pen}
+use Rattle.cept_codes.specs.declared.attribute.Size.TheVariants as sizes
 use Rattle.cept_codes.specs.declared.cell.What.{What}
 use Rattle.cept_codes.specs.declared.command.C1Set.{C1Set}
 use Rattle.cept_codes.specs.declared.command.C1Set.TheVariants as c1sets
 use Rattle.cept_codes.specs.declared.command.Command.{Command}
 use Rattle.cept_codes.specs.declared.command.Command.TheVariants as commands
 use Rattle.cept_codes.specs.declared.glyph.Glyph.{Glyph}
+use Rattle.cept_codes.specs.declared.glyph.Read.{Read}
 use Rattle.cept_codes.specs.declared.glyph.Read.TheVariants as reads
 use Rattle.cept_codes.specs.declared.glyph.SetId.{SetId}
 use Rattle.cept_codes.specs.declared.glyph.SetId.TheVariants as sets
@@ -23,10 +25,9 @@ use Rattle.cept_codes.specs.Glyph.{IsCodeOf, IsValidAccent, IsValidGlyph}
 use Rattle.cept_codes.specs.Same.{same_glyph}
 use Rattle.cept_parser.specs.Spelling.{spellings}
 use Rattle.cept_profile.specs.Control.{ControlState, Sets, Working, control_with, initial_sets}
-use Rattle.cept_profile.specs.Control.{working_with_sets}
-use Rattle.cept_profile.specs.Sets.{GraphicResult, graphic, is_accent, is_left, set_of, sets_with, sets_with_left}
-use Rattle.cept_profile.specs.Sets.{sets_with_single, sign}
-use Rattle.cept_profile.specs.Writing.{columns_of_set, columns_of_sign, columns_under, content, control_after_copies}
+use Rattle.cept_profile.specs.Sets.{code_of, is_accent, is_left, read_as, set_of, sets_with, sign}
+use Rattle.cept_profile.specs.Tiling.{columns_of_size}
+use Rattle.cept_profile.specs.Writing.{columns_of_sign, columns_under, content, control_after_copies, control_after_shift}
 use Rattle.cept_profile.specs.Writing.{sign_with_accent, strokes_of_copies, strokes_of_read, strokes_of_repeat, strokes_of_sign}
 use Rattle.cept_profile.specs.Writing.{working_after_read, working_after_repeat, working_after_sign}
 use Rattle.cept_writer.specs.CellCommands.{accent_commands}
@@ -36,7 +37,7 @@ use Rattle.cept_writer.specs.SegmentCommands.{signs_commands, unit_commands, uni
 use Rattle.cept_writer.proofs.ChainLemmas.{chains_joined, each_chain}
 use Rattle.cept_writer.proofs.Drawing.{Draws, draws_joined, draws_none, draws_one, draws_silent}
 use Rattle.cept_writer.proofs.Resting.{Fixed, Hand, control_in_cell, hand_ahead, moves_on, stays}
-use Rattle.cept_writer.proofs.SignsWritten.{accent_reads, byte_reads, first_sign_reads, graphic_result_of, sign_control}
+use Rattle.cept_writer.proofs.SignsWritten.{accent_reads, byte_reads, first_sign_reads, sign_control}
 use Rattle.cept_writer.proofs.SignsWritten.{sign_reads, sign_strokes}
 
 -- ---- cells one after the other
@@ -67,12 +68,13 @@ pub record IsAt (v : Hand) (r c : ℕ) : Type 0 where
 
 -- the sets while signs of one set are written
 abbrev pub sets_among : SetId → Sets
-sets_among sets.M = sets_with_left initial_sets 1
+sets_among sets.M = record initial_sets { left = 1 }
 sets_among sets.D = sets_with initial_sets 0 sets.D
 sets_among _ = initial_sets
 
 -- signs take one column
-one_column : (c1 : C1Set) (w : Working) → w.step ≡ 1 → columns_of_set w.pen.size ≡ 1 → columns_under c1 w ≡ 1
+one_column : (c1 : C1Set) (w : Working) → w.step ≡ 1 → columns_of_size (unwrap_or w.pen.size sizes.Normal) ≡ 1
+    → columns_under c1 w ≡ 1
 one_column c1sets.Serial w step narrow = step
 one_column c1sets.Parallel w step narrow = narrow
 
@@ -176,7 +178,8 @@ module _ (fixed : Fixed) (protect : Bool) (c1 : C1Set) (pen : Pen) (s : Sets) wh
 
 -- ---- signs
 
-module _ (fixed : Fixed) (protect : Bool) (c1 : C1Set) (pen : Pen) (narrow : columns_of_set pen.size ≡ 1) where
+module _ (fixed : Fixed) (protect : Bool) (c1 : C1Set) (pen : Pen)
+    (narrow : columns_of_size (unwrap_or pen.size sizes.Normal) ≡ 1) where
   -- a sign as it stands in a cell of the segment
   abbrev pub what_of : Glyph → What
   what_of g = content c1 g pen
@@ -201,16 +204,17 @@ module _ (fixed : Fixed) (protect : Bool) (c1 : C1Set) (pen : Pen) (narrow : col
       (one_column c1 (control_in_cell fixed s accent protect (in_segment c1 pen v)).working refl narrow)
 
   -- a byte that gives a sign
-  byte_draws : (s t : Sets) (accent : Option ℕ) (v : Hand) (code : ℕ) (g : Glyph)
-      → graphic s code false ≡ graphic_result_of (reads.Glyph g) t
+  byte_draws : (s : Sets) (accent : Option ℕ) (v : Hand) (code : ℕ) (g : Glyph)
+      → read_as (set_of s code false) (code_of code) ≡ reads.Glyph g
       → Draws (control_in_cell fixed s accent protect (in_segment c1 pen v)) (commands.Graphic code ∷ [])
       (puts_from protect v.row v.column (what_of (sign_with_accent g.set g.code accent) ∷ []))
-      (control_in_cell fixed t None protect (in_segment c1 pen (after_sign v (sign_with_accent g.set g.code accent))))
-  byte_draws s t accent v code g gives =
+      (control_in_cell fixed (record s { single = None }) None protect
+      (in_segment c1 pen (after_sign v (sign_with_accent g.set g.code accent))))
+  byte_draws s accent v code g gives =
       draws_one _ _ (commands.Graphic code) _
-      (sign_control fixed s t accent protect (in_segment c1 pen v) code g gives
-      ∙ moved_by_one t accent v (sign_with_accent g.set g.code accent))
-      (sign_strokes fixed s t accent protect (in_segment c1 pen v) code g gives)
+      (sign_control fixed s accent protect (in_segment c1 pen v) code g gives
+      ∙ moved_by_one (record s { single = None }) accent v (sign_with_accent g.set g.code accent))
+      (sign_strokes fixed s accent protect (in_segment c1 pen v) code g gives)
 
   -- left bytes take the set that is locked to them
   left_is : (code : ℕ) → code ≤ 0x7F → is_left code ≡ true
@@ -228,24 +232,23 @@ module _ (fixed : Fixed) (protect : Bool) (c1 : C1Set) (pen : Pen) (narrow : col
       (commands.Single 2 ∷ commands.Graphic accent ∷ commands.Graphic code ∷ [])
   unfolding set_of
   accented v code accent below low high =
-      let waits = byte_reads (sets_with_single initial_sets 2) false sets.S accent (reads.Accent accent)
+      let waits = byte_reads (record initial_sets { single = Some 2 }) false sets.S accent (reads.Accent accent)
       (omega (arith, high)) refl (accent_reads accent low high) in
       let gives = byte_reads initial_sets false sets.P code (reads.Glyph (sign sets.P code)) below
       (ap (λ (t : Bool). cond t sets.P sets.S) (left_is code below)) (first_sign_reads code) in
       let single : ControlState =
-      control_in_cell fixed (sets_with_single initial_sets 2) None protect (in_segment c1 pen v) in
+      control_in_cell fixed (record initial_sets { single = Some 2 }) None protect (in_segment c1 pen v) in
       draws_silent _ single _ (commands.Single 2) _ _ refl refl
       (draws_silent single (control_in_cell fixed initial_sets (Some accent) protect (in_segment c1 pen v)) _
       (commands.Graphic accent) _ _
-      (ap (λ (r : GraphicResult). control_with single
-      (working_after_read (control_with single (working_with_sets r.sets single.working)) r.read)) waits)
-      (ap (λ (r : GraphicResult). strokes_of_read single r.read) waits)
-      (byte_draws initial_sets initial_sets (Some accent) v code (sign sets.P code) gives))
+      (ap (λ (r : Read). control_with single (working_after_read (control_after_shift single) r)) waits)
+      (ap (λ (r : Read). strokes_of_read single r) waits)
+      (byte_draws initial_sets (Some accent) v code (sign sets.P code) gives))
 
   primary : (v : Hand) (code : ℕ) → code ≤ 0x7F → UnitDraws sets.P v (sign sets.P code) (commands.Graphic code ∷ [])
   unfolding set_of
   primary v code below =
-      byte_draws initial_sets initial_sets None v code (sign sets.P code)
+      byte_draws initial_sets None v code (sign sets.P code)
       (byte_reads initial_sets false sets.P code (reads.Glyph (sign sets.P code)) below
       (ap (λ (t : Bool). cond t sets.P sets.S) (left_is code below)) (first_sign_reads code))
 
@@ -253,12 +256,12 @@ module _ (fixed : Fixed) (protect : Bool) (c1 : C1Set) (pen : Pen) (narrow : col
       → UnitDraws sets.S v (sign sets.S code) (commands.Single 2 ∷ commands.Graphic code ∷ [])
   unfolding set_of
   supplementary v code is =
-      let single : Sets = sets_with_single initial_sets 2 in
+      let single : Sets = record initial_sets { single = Some 2 } in
       let no_space : eqb code 0x20 ≡ false = grind (arith, nat_tests) in
       let no_accent : is_accent sets.S code ≡ false = grind (arith, nat_tests) in
       draws_silent _ (control_in_cell fixed single None protect (in_segment c1 pen v)) _ (commands.Single 2) _ _ refl
       refl
-      (byte_draws single initial_sets None v code (sign sets.S code)
+      (byte_draws single None v code (sign sets.S code)
       (byte_reads single false sets.S code (reads.Glyph (sign sets.S code)) is.1 refl
       (sign_reads sets.S code no_space no_accent)))
 
@@ -266,20 +269,20 @@ module _ (fixed : Fixed) (protect : Bool) (c1 : C1Set) (pen : Pen) (narrow : col
       → UnitDraws sets.N v (sign sets.N code) (commands.Single 3 ∷ commands.Graphic code ∷ [])
   unfolding set_of
   third v code is =
-      let single : Sets = sets_with_single initial_sets 3 in
+      let single : Sets = record initial_sets { single = Some 3 } in
       let no_space : eqb code 0x20 ≡ false = grind (arith, nat_tests) in
       draws_silent _ (control_in_cell fixed single None protect (in_segment c1 pen v)) _ (commands.Single 3) _ _ refl
       refl
-      (byte_draws single initial_sets None v code (sign sets.N code)
+      (byte_draws single None v code (sign sets.N code)
       (byte_reads single false sets.N code (reads.Glyph (sign sets.N code)) is.1 refl (sign_reads sets.N code no_space refl)))
 
   mosaic : (v : Hand) (code : ℕ) → IsCodeOf sets.M code
       → UnitDraws sets.M v (sign sets.M code) (commands.Graphic code ∷ [])
   unfolding set_of
   mosaic v code is =
-      let locked : Sets = sets_with_left initial_sets 1 in
+      let locked : Sets = record initial_sets { left = 1 } in
       let no_space : eqb code 0x20 ≡ false = grind (arith, nat_tests) in
-      byte_draws locked locked None v code (sign sets.M code)
+      byte_draws locked None v code (sign sets.M code)
       (byte_reads locked false sets.M code (reads.Glyph (sign sets.M code)) is.1
       (ap (λ (t : Bool). cond t sets.M sets.S) (left_is code is.1)) (sign_reads sets.M code no_space refl))
 
@@ -289,7 +292,7 @@ module _ (fixed : Fixed) (protect : Bool) (c1 : C1Set) (pen : Pen) (narrow : col
   downloaded v code is =
       let named : Sets = sets_with initial_sets 0 sets.D in
       let no_space : eqb code 0x20 ≡ false = grind (arith, nat_tests) in
-      byte_draws named named None v code (sign sets.D code)
+      byte_draws named None v code (sign sets.D code)
       (byte_reads named false sets.D code (reads.Glyph (sign sets.D code)) is.1
       (ap (λ (t : Bool). cond t sets.D sets.S) (left_is code is.1)) (sign_reads sets.D code no_space refl))
 

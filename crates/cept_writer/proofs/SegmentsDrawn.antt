@@ -2,7 +2,7 @@
 -- segments one after the other.
 use Rattle.std.proofs.Common.{◌≡◌, ℕ, ◌+◌, ◌*◌, leb, ◌≤◌, ◌⊎◌, Bool, true, false, not, ◌&&◌, cond, eqb, None, List, []}
 use Rattle.std.proofs.Common.{◌∷◌, ◌++◌, length, map, refl, sym, ap, ◌∙◌, subst, inl, inr, arith}
-use Rattle.std.specs.Prelude.{IsTrue, ◌↔◌}
+use Rattle.std.specs.Prelude.{IsTrue, ◌↔◌, unwrap_or}
 use Rattle.std.proofs.lemmas.Bool.{and_parts, cases_lt, eqb-true}
 use Rattle.std.proofs.lemmas.List.{append-nil, length-append, length-map}
 use Rattle.std.proofs.Math.Nat.{zero-mul}
@@ -11,6 +11,7 @@ use Rattle.cept_codes.specs.declared.attribute.Pen.{Pen}
 use Rattle.cept_codes.specs.declared.cell.Cell.{Cell}
 use Rattle.cept_codes.specs.declared.cell.Marker.{Marker}
 use Rattle.cept_codes.specs.declared.cell.Marker.TheVariants as markers
+use Rattle.cept_codes.specs.declared.attribute.Size.TheVariants as sizes
 use Rattle.cept_codes.specs.declared.cell.What.{What}
 use Rattle.cept_codes.specs.declared.cell.What.TheVariants as whats
 use Rattle.cept_codes.specs.declared.command.C1Set.{C1Set}
@@ -31,7 +32,8 @@ use Rattle.cept_codes.proofs.Laws.{OnScreen-place_of}
 use Rattle.cept_parser.specs.Spelling.{spellings}
 use Rattle.cept_profile.specs.Control.{initial_sets}
 use Rattle.cept_profile.specs.Markers.{run_after, step_after}
-use Rattle.cept_profile.specs.Writing.{columns_of_set, content}
+use Rattle.cept_profile.specs.Tiling.{columns_of_size}
+use Rattle.cept_profile.specs.Writing.{content}
 use Rattle.cept_writer.specs.AttributeCommands.{attributes_of, pen_commands}
 use Rattle.cept_writer.specs.CellCommands.{content_commands, glyph_commands, marker_commands, protected_commands, sign_commands}
 use Rattle.cept_writer.specs.Chains.{Chain, GoOnFrom, alone, chains, members}
@@ -187,7 +189,7 @@ is_followed m (whats.Parallel g pen) on = absurd cc
 
 module _ (same_sets : (a b : SetId) → IsTrue (same_set a b) ↔ (a ≡ b))
     (same_signs : (a b : Glyph) → IsTrue (same_glyph a b) ↔ (a ≡ b)) (fixed : Fixed) (protect : Bool) (c1 : C1Set) (pen : Pen)
-    (narrow : columns_of_set pen.size ≡ 1) where
+    (narrow : columns_of_size (unwrap_or pen.size sizes.Normal) ≡ 1) where
   -- a sign and those of its set after it
   signs_go : (g : Glyph) (first : What) (more : List What) → sign_in first ≡ g ∷ [] → IsSignOf g.set first
       → GoOnFrom is_of_same_set first more → AllByRecursion (Belongs c1 pen) (first ∷ more) → (v : Hand)
@@ -366,12 +368,14 @@ first_belongs (whats.Parallel g pen) some is = (refl, refl, is.0)
 first_belongs (whats.Marker m) some is = refl
 
 -- the signs of a segment of two cells take one column
-first_narrow : (a b : What) → is_written_on a b ≡ true → columns_of_set (pen_of a).size ≡ 1
+first_narrow : (a b : What) → is_written_on a b ≡ true
+    → columns_of_size (unwrap_or (pen_of a).size sizes.Normal) ≡ 1
 first_narrow whats.Blank b on = refl
 first_narrow (whats.Serial g) b on = refl
 first_narrow (whats.Marker m) b on = refl
 first_narrow (whats.Parallel g pen) (whats.Parallel h next) on =
-    eqb-true (columns_of_set pen.size) 1 (and_parts (same_pen pen next) (eqb (columns_of_set pen.size) 1) on).1
+    let columns : ℕ = columns_of_size (unwrap_or pen.size sizes.Normal) in
+    eqb-true columns 1 (and_parts (same_pen pen next) (eqb columns 1) on).1
 first_narrow (whats.Parallel g pen) whats.Blank on = absurd cc
 first_narrow (whats.Parallel g pen) (whats.Serial h) on = absurd cc
 first_narrow (whats.Parallel g pen) (whats.Marker m) on = absurd cc
@@ -388,7 +392,8 @@ module _ (same_pens : (a b : Pen) → IsTrue (same_pen a b) ↔ (a ≡ b)) (c1 :
   next_belongs (whats.Marker m) whats.Blank is on valid = absurd cc
   next_belongs (whats.Marker m) (whats.Parallel h own) is on valid = absurd cc
   next_belongs (whats.Parallel g own) (whats.Parallel h next) is on valid =
-      let same = (same_pens own next).0 (and_parts (same_pen own next) (eqb (columns_of_set own.size) 1) on).0 in
+      let columns : ℕ = columns_of_size (unwrap_or own.size sizes.Normal) in
+      let same = (same_pens own next).0 (and_parts (same_pen own next) (eqb columns 1) on).0 in
       (is.0, sym same ∙ is.1, valid.0)
   next_belongs (whats.Parallel g own) whats.Blank is on valid = absurd cc
   next_belongs (whats.Parallel g own) (whats.Serial h) is on valid = absurd cc

@@ -13,28 +13,22 @@ use Rattle.cept_codes.specs.declared.stroke.Stroke.{Stroke}
 use Rattle.cept_codes.specs.declared.stroke.Stroke.TheVariants as strokes
 use Rattle.cept_codes.specs.Glyph.{IsCodeOf, IsValidAccent, IsValidGlyph}
 use Rattle.cept_profile.specs.Control.{ControlState, Sets, Working, control_after, control_with, initial_sets}
-use Rattle.cept_profile.specs.Control.{working_with_sets}
-use Rattle.cept_profile.specs.Sets.{GraphicResult, graphic, is_accent, is_left, read_as, set_of, sets_with, sets_with_left}
-use Rattle.cept_profile.specs.Sets.{sets_with_single, sets_without_single, sign}
+use Rattle.cept_profile.specs.Sets.{code_of, is_accent, is_left, read_as, set_of, sets_with, sign}
 use Rattle.cept_profile.specs.Strokes.{strokes_of}
-use Rattle.cept_profile.specs.Writing.{columns_of_sign, content, sign_with_accent, strokes_of_read, working_after_read}
+use Rattle.cept_profile.specs.Writing.{columns_of_sign, content, control_after_shift, sign_with_accent, strokes_of_read}
+use Rattle.cept_profile.specs.Writing.{working_after_read}
 use Rattle.cept_writer.specs.CellCommands.{accent_commands, glyph_commands, sign_commands}
 use Rattle.cept_writer.proofs.Drawing.{Draws, draws_one, draws_silent, draws_then}
 use Rattle.cept_writer.proofs.Resting.{Fixed, Hand, hand_ahead, control_in_cell, moves_on, stays}
 
 -- ---- what a byte gives
 
-abbrev pub graphic_result_of : Read → Sets → GraphicResult
-graphic_result_of read s = record { read = read; sets = s }
-
 -- a byte of the left half by the set that is taken for it
 pub byte_reads : (s : Sets) (run : Bool) (set : SetId) (code : ℕ) (read : Read) → code ≤ 0x7F → set_of s code run ≡ set
-    → read_as set code ≡ read → graphic s code run ≡ graphic_result_of read (sets_without_single s)
+    → read_as set code ≡ read → read_as (set_of s code run) (code_of code) ≡ read
 byte_reads s run set code read below taken reads =
     let same : code % 0x80 ≡ code = omega arith in
-    ap (λ (k : ℕ). graphic_result_of (read_as (set_of s code run) k) (sets_without_single s)) same
-    ∙ ap (λ (t : SetId). graphic_result_of (read_as t code) (sets_without_single s)) taken
-    ∙ ap (λ (r : Read). graphic_result_of r (sets_without_single s)) reads
+    ap (λ (k : ℕ). read_as (set_of s code run) k) same ∙ ap (λ (t : SetId). read_as t code) taken ∙ reads
 
 -- a code that is no space and no accent is a sign
 pub sign_reads : (set : SetId) (code : ℕ) → eqb code 0x20 ≡ false → is_accent set code ≡ false
@@ -64,26 +58,27 @@ accent_reads code low high =
 -- ---- one byte
 
 -- a byte that gives a sign
-pub sign_control : (fixed : Fixed) (s t : Sets) (accent : Option ℕ) (protect : Bool) (v : Hand) (code : ℕ) (g : Glyph)
-    → graphic s code v.run ≡ graphic_result_of (reads.Glyph g) t
+pub sign_control : (fixed : Fixed) (s : Sets) (accent : Option ℕ) (protect : Bool) (v : Hand) (code : ℕ) (g : Glyph)
+    → read_as (set_of s code v.run) (code_of code) ≡ reads.Glyph g
     → control_after (control_in_cell fixed s accent protect v) (commands.Graphic code)
-    ≡ control_in_cell fixed t None protect (record (hand_ahead fixed v (columns_of_sign (control_in_cell fixed t accent protect v)))
+    ≡ control_in_cell fixed (record s { single = None }) None protect
+    (record (hand_ahead fixed v (columns_of_sign (control_in_cell fixed (record s { single = None }) accent protect v)))
     { last = Some (sign_with_accent g.set g.code accent) })
-sign_control fixed s t accent protect v code g gives =
+sign_control fixed s accent protect v code g gives =
+    let t : Sets = record s { single = None } in
     let from : ControlState = control_in_cell fixed s accent protect v in
-    ap (λ (r : GraphicResult). control_with from
-    (working_after_read (control_with from (working_with_sets r.sets from.working)) r.read)) gives
+    ap (λ (r : Read). control_with from (working_after_read (control_after_shift from) r)) gives
     ∙ ap (λ (w : Working). control_with from (record w { last = Some (sign_with_accent g.set g.code accent); accent = None }))
     (moves_on fixed t accent protect v (columns_of_sign (control_in_cell fixed t accent protect v)))
 
-pub sign_strokes : (fixed : Fixed) (s t : Sets) (accent : Option ℕ) (protect : Bool) (v : Hand) (code : ℕ) (g : Glyph)
-    → graphic s code v.run ≡ graphic_result_of (reads.Glyph g) t
+pub sign_strokes : (fixed : Fixed) (s : Sets) (accent : Option ℕ) (protect : Bool) (v : Hand) (code : ℕ) (g : Glyph)
+    → read_as (set_of s code v.run) (code_of code) ≡ reads.Glyph g
     → strokes_of (control_in_cell fixed s accent protect v) (commands.Graphic code)
     ≡ strokes.Put (record { row = v.row; column = v.column })
     (record { what = content v.c1 (sign_with_accent g.set g.code accent) v.pen; protected = protect }) ∷ []
-sign_strokes fixed s t accent protect v code g gives =
+sign_strokes fixed s accent protect v code g gives =
     let from : ControlState = control_in_cell fixed s accent protect v in
-    ap (λ (r : GraphicResult). strokes_of_read from r.read) gives
+    ap (λ (r : Read). strokes_of_read from r) gives
     ∙ ap (λ (more : List Stroke). strokes.Put (record { row = v.row; column = v.column })
     (record { what = content v.c1 (sign_with_accent g.set g.code accent) v.pen; protected = protect }) ∷ more)
     (stays fixed s accent protect v (columns_of_sign from))
@@ -111,21 +106,21 @@ module _ (fixed : Fixed) (protect : Bool) (v : Hand) where
       (commands.Single 2 ∷ commands.Graphic accent ∷ commands.Graphic code ∷ [])
   unfolding set_of
   accented code accent below low high =
-      let waits = byte_reads (sets_with_single initial_sets 2) false sets.S accent (reads.Accent accent)
+      let waits = byte_reads (record initial_sets { single = Some 2 }) false sets.S accent (reads.Accent accent)
       (omega (arith, high)) refl (accent_reads accent low high) in
       let gives = byte_reads initial_sets false sets.P code (reads.Glyph (sign sets.P code)) below
       (ap (λ (t : Bool). cond t sets.P sets.S) (left_is code below)) (first_sign_reads code) in
-      let single : ControlState = control_in_cell fixed (sets_with_single initial_sets 2) None protect (hand_without_run v) in
+      let single : ControlState =
+      control_in_cell fixed (record initial_sets { single = Some 2 }) None protect (hand_without_run v) in
       record {
         hand = _;
         draws = draws_silent _ single _ (commands.Single 2) _ _ refl refl
             (draws_silent single (control_in_cell fixed initial_sets (Some accent) protect (hand_without_run v)) _ (commands.Graphic accent) _ _
-            (ap (λ (r : GraphicResult). control_with single
-            (working_after_read (control_with single (working_with_sets r.sets single.working)) r.read)) waits)
-            (ap (λ (r : GraphicResult). strokes_of_read single r.read) waits)
+            (ap (λ (r : Read). control_with single (working_after_read (control_after_shift single) r)) waits)
+            (ap (λ (r : Read). strokes_of_read single r) waits)
             (draws_one _ _ (commands.Graphic code) _
-            (sign_control fixed initial_sets initial_sets (Some accent) protect (hand_without_run v) code (sign sets.P code) gives)
-            (sign_strokes fixed initial_sets initial_sets (Some accent) protect (hand_without_run v) code (sign sets.P code) gives)));
+            (sign_control fixed initial_sets (Some accent) protect (hand_without_run v) code (sign sets.P code) gives)
+            (sign_strokes fixed initial_sets (Some accent) protect (hand_without_run v) code (sign sets.P code) gives)));
       }
 
   first : (code : ℕ) → code ≤ 0x7F
@@ -137,15 +132,15 @@ module _ (fixed : Fixed) (protect : Bool) (v : Hand) where
       record {
         hand = _;
         draws = draws_one _ _ (commands.Graphic code) _
-            (sign_control fixed initial_sets initial_sets None protect (hand_without_run v) code (sign sets.P code) gives)
-            (sign_strokes fixed initial_sets initial_sets None protect (hand_without_run v) code (sign sets.P code) gives);
+            (sign_control fixed initial_sets None protect (hand_without_run v) code (sign sets.P code) gives)
+            (sign_strokes fixed initial_sets None protect (hand_without_run v) code (sign sets.P code) gives);
       }
 
   supplementary : (code : ℕ) → IsCodeOf sets.S code
       → Puts fixed protect (hand_without_run v) (sign sets.S code) (commands.Single 2 ∷ commands.Graphic code ∷ [])
   unfolding set_of
   supplementary code is =
-      let single : Sets = sets_with_single initial_sets 2 in
+      let single : Sets = record initial_sets { single = Some 2 } in
       let no_space : eqb code 0x20 ≡ false = grind (arith, nat_tests) in
       let no_accent : is_accent sets.S code ≡ false = grind (arith, nat_tests) in
       let gives = byte_reads single false sets.S code (reads.Glyph (sign sets.S code)) is.1 refl
@@ -154,15 +149,15 @@ module _ (fixed : Fixed) (protect : Bool) (v : Hand) where
         hand = _;
         draws = draws_silent _ (control_in_cell fixed single None protect (hand_without_run v)) _ (commands.Single 2) _ _ refl refl
             (draws_one _ _ (commands.Graphic code) _
-            (sign_control fixed single initial_sets None protect (hand_without_run v) code (sign sets.S code) gives)
-            (sign_strokes fixed single initial_sets None protect (hand_without_run v) code (sign sets.S code) gives));
+            (sign_control fixed single None protect (hand_without_run v) code (sign sets.S code) gives)
+            (sign_strokes fixed single None protect (hand_without_run v) code (sign sets.S code) gives));
       }
 
   third : (code : ℕ) → IsCodeOf sets.N code
       → Puts fixed protect (hand_without_run v) (sign sets.N code) (commands.Single 3 ∷ commands.Graphic code ∷ [])
   unfolding set_of
   third code is =
-      let single : Sets = sets_with_single initial_sets 3 in
+      let single : Sets = record initial_sets { single = Some 3 } in
       let no_space : eqb code 0x20 ≡ false = grind (arith, nat_tests) in
       let gives = byte_reads single false sets.N code (reads.Glyph (sign sets.N code)) is.1 refl
       (sign_reads sets.N code no_space refl) in
@@ -170,15 +165,15 @@ module _ (fixed : Fixed) (protect : Bool) (v : Hand) where
         hand = _;
         draws = draws_silent _ (control_in_cell fixed single None protect (hand_without_run v)) _ (commands.Single 3) _ _ refl refl
             (draws_one _ _ (commands.Graphic code) _
-            (sign_control fixed single initial_sets None protect (hand_without_run v) code (sign sets.N code) gives)
-            (sign_strokes fixed single initial_sets None protect (hand_without_run v) code (sign sets.N code) gives));
+            (sign_control fixed single None protect (hand_without_run v) code (sign sets.N code) gives)
+            (sign_strokes fixed single None protect (hand_without_run v) code (sign sets.N code) gives));
       }
 
   mosaic : (code : ℕ) → IsCodeOf sets.M code → Puts fixed protect (hand_without_run v) (sign sets.M code)
       (commands.LockLeft 1 ∷ commands.Graphic code ∷ commands.LockLeft 0 ∷ [])
   unfolding set_of
   mosaic code is =
-      let locked : Sets = sets_with_left initial_sets 1 in
+      let locked : Sets = record initial_sets { left = 1 } in
       let no_space : eqb code 0x20 ≡ false = grind (arith, nat_tests) in
       let gives = byte_reads locked false sets.M code (reads.Glyph (sign sets.M code)) is.1
       (ap (λ (t : Bool). cond t sets.M sets.S) (left_is code is.1)) (sign_reads sets.M code no_space refl) in
@@ -186,8 +181,8 @@ module _ (fixed : Fixed) (protect : Bool) (v : Hand) where
         hand = _;
         draws = draws_silent _ (control_in_cell fixed locked None protect (hand_without_run v)) _ (commands.LockLeft 1) _ _ refl refl
             (draws_then _ _ _ (commands.Graphic code) _ _ []
-            (sign_control fixed locked locked None protect (hand_without_run v) code (sign sets.M code) gives)
-            (sign_strokes fixed locked locked None protect (hand_without_run v) code (sign sets.M code) gives)
+            (sign_control fixed locked None protect (hand_without_run v) code (sign sets.M code) gives)
+            (sign_strokes fixed locked None protect (hand_without_run v) code (sign sets.M code) gives)
             (draws_one _ _ (commands.LockLeft 0) [] refl refl));
       }
 
@@ -203,8 +198,8 @@ module _ (fixed : Fixed) (protect : Bool) (v : Hand) where
         hand = _;
         draws = draws_silent _ (control_in_cell fixed named None protect (hand_without_run v)) _ (commands.Designate 0 sets.D) _ _ refl refl
             (draws_then _ _ _ (commands.Graphic code) _ _ []
-            (sign_control fixed named named None protect (hand_without_run v) code (sign sets.D code) gives)
-            (sign_strokes fixed named named None protect (hand_without_run v) code (sign sets.D code) gives)
+            (sign_control fixed named None protect (hand_without_run v) code (sign sets.D code) gives)
+            (sign_strokes fixed named None protect (hand_without_run v) code (sign sets.D code) gives)
             (draws_one _ _ (commands.Designate 0 sets.P) [] refl refl));
       }
 

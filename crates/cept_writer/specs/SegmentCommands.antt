@@ -2,8 +2,9 @@
 -- after one position, with their protection, their C1 set and their pen said once. Within a segment signs of one set
 -- stand together, and equal signs are repeated where that is shorter.
 use Rattle.std.specs.Prelude.{ℕ, ◌+◌, ◌*◌, Bool, true, false, not, ◌&&◌, List, [], ◌∷◌, ◌++◌, ◌==◌, nat_le, length, flat_map}
-use Rattle.std.specs.Prelude.{map, if◌then◌else◌}
+use Rattle.std.specs.Prelude.{map, if◌then◌else◌, unwrap_or}
 use Rattle.std.specs.List.{range_with_len}
+use Rattle.cept_codes.specs.declared.attribute.Size.TheVariants as sizes
 use Rattle.cept_codes.specs.declared.cell.Cell.{Cell}
 use Rattle.cept_codes.specs.declared.cell.Marker.{Marker}
 use Rattle.cept_codes.specs.declared.cell.Marker.TheVariants as markers
@@ -18,7 +19,7 @@ use Rattle.cept_codes.specs.declared.glyph.SetId.TheVariants as sets
 use Rattle.cept_codes.specs.Place.{Place, place_of}
 use Rattle.cept_codes.specs.Same.{same_glyph, same_pen, same_set}
 use Rattle.cept_parser.specs.Spelling.{spellings}
-use Rattle.cept_profile.specs.Writing.{columns_of_set}
+use Rattle.cept_profile.specs.Tiling.{columns_of_size}
 use Rattle.cept_writer.specs.AttributeCommands.{pen_commands}
 use Rattle.cept_writer.specs.CellCommands.{accent_commands, marker_commands, protected_commands}
 use Rattle.cept_writer.specs.Chains.{Chain, chains, members}
@@ -62,7 +63,8 @@ ends_segment _ = false
 -- what may be written on after what stands left of it: under the parallel set with an equal pen whose signs take one
 -- column, under the serial set but after a marker that ends its segment
 abbrev pub is_written_on : What → What → Bool
-is_written_on (whats.Parallel g pen) (whats.Parallel h next) = same_pen pen next && columns_of_set pen.size == 1
+is_written_on (whats.Parallel g pen) (whats.Parallel h next) =
+    same_pen pen next && columns_of_size (unwrap_or pen.size sizes.Normal) == 1
 is_written_on (whats.Serial g) (whats.Serial h) = true
 is_written_on (whats.Serial g) (whats.Marker m) = true
 is_written_on (whats.Marker m) (whats.Serial h) = not (ends_segment m)

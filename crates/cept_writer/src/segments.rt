@@ -1,9 +1,9 @@
 ghost use Rattle.std.specs.Prelude.{◌≡◌, ◌+◌, ◌*◌, ◌≤◌, ◌<◌, ◌++◌, ◌∷◌, [], ◌==◌, length};
-ghost use Rattle.std.specs.Prelude.{if◌then◌else◌};
+ghost use Rattle.std.specs.Prelude.{if◌then◌else◌, unwrap_or};
 ghost use Rattle.cept_codes.specs.Place.{place_of};
 ghost use Rattle.cept_codes.specs.Same.{same_glyph, same_set};
 ghost use Rattle.cept_parser.specs.Spelling.{spellings};
-ghost use Rattle.cept_profile.specs.Writing.{columns_of_set};
+ghost use Rattle.cept_profile.specs.Tiling.{columns_of_size};
 ghost use Rattle.cept_writer.specs.Room.{Adds, HasRoomFor};
 ghost use Rattle.cept_writer.specs.declared.link.Link.TheVariants as links;
 ghost use Rattle.cept_writer.specs.SegmentCommands.{ends_segment, is_same_protection};
@@ -22,7 +22,7 @@ use cept_codes::{C1Set, Cell, Command, Glyph, Marker, Pen, Pos, SetId, Size, Wha
 
 /// Whether the signs of a pen take one column.
 fn takes_one_column(pen: &Pen) -> bool
-    ensures { result ≡ (columns_of_set pen.now.size == 1) }
+    ensures { result ≡ (columns_of_size (unwrap_or pen.now.size Size.Normal) == 1) }
 {
     match pen.size {
         None | Some(Size::Normal) | Some(Size::High) => true,

@@ -1,9 +1,9 @@
 -- Places of a row, kept one after the other (own).
 use Rattle.std.specs.Prelude.{ℕ, ◌≡◌, ◌≤◌, ◌<◌, ◌+◌, Bool, false, List}
 use Rattle.cept_codes.specs.declared.look.Look.{Look}
-use Rattle.cept_profile.specs.Look.{look_with_part, part_of, shape_of}
+use Rattle.cept_profile.specs.Look.{part_of, shape_of}
 use Rattle.cept_profile.specs.Serial.{row_in}
-use Rattle.cept_profile.specs.Tiling.{is_covered_from_left, part_below, part_to_the_right}
+use Rattle.cept_profile.specs.Tiling.{is_covered_from_left}
 use Rattle.cept_rows.specs.declared.drawing.Drawing.{Drawing}
 use Rattle.cept_rows.specs.declared.small_look.SmallLook.{SmallLook}
 use Rattle.cept_rows.specs.Flagged.{look_at}
@@ -28,11 +28,11 @@ pub record IsPlainLook (look : SmallLook) : Type 0 where
 
 -- one place down
 abbrev pub look_below : Look → Look
-look_below look = look_with_part (part_below (part_of look)) look
+look_below look = record look { dy = 1 }
 
 -- one place to the right
 abbrev pub look_beside : Look → Look
-look_beside look = look_with_part (part_to_the_right (part_of look)) look
+look_beside look = record look { dy = 0; dx = 1 }
 
 -- the place to the right of a column is covered from the left
 abbrev pub covers_next : Source → List Look → ℕ → Bool

@@ -23,7 +23,7 @@ loop-n-preserved c =
     c.is_blank.ensures
     ∙ ap (λ (l : Look). same_look l blank_look) c.look_at_phase.ensures.look
     ∙ ap (λ (l : Look). same_look (look_at_phase l 0) blank_look)
-    (c.shown.ensures.look ∙ ap (look_at c.args.kept.now.rows) here) in
+    (c.shown_look.ensures.look ∙ ap (look_at c.args.kept.now.rows) here) in
     elim c.if-not-is_blank.branch [
       | then-not-is_blank w ↦
           AreMarkedBelow-marked c.if-not-is_blank.marks c.loop-n.n

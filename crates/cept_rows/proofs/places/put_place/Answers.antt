@@ -4,7 +4,7 @@ use Rattle.cept_codes.specs.Look.{IsValidLook}
 use Rattle.cept_profile.specs.Look.{look_with_part, part_of}
 use Rattle.cept_profile.specs.Serial.{row_in}
 use Rattle.cept_profile.specs.Tiling.{covers_below, is_high, is_wide, origin_part}
-use Rattle.cept_profile.specs.Tiling.{part_to_the_right, single_part}
+use Rattle.cept_profile.specs.Tiling.{single_part}
 use Rattle.cept_rows.specs.Flagged.{look_at}
 use Rattle.cept_rows.specs.inside.Flagged.{with_look}
 use Rattle.cept_rows.specs.inside.Places.{look_below, look_beside}
@@ -59,7 +59,7 @@ pub returns-then-covered-clause-covered : goal.returns-then-covered-clause-cover
 returns-then-covered-clause-covered c =
     covered-elsewhere (look_at c.args.above.now c.args.column)
     (place_made c.args.source.now c.args.above.now c.args.column)
-    (part_to_the_right (part_of (look_at c.args.looks.now (c.args.column - 1))))
+    (record (part_of (look_at c.args.looks.now (c.args.column - 1))) { dy = 0; dx = 1 })
     (sym c.covers_below.ensures ∙ c.if-covers_below.false) (sym (ap part_of (right c.before)))
 
 -- ---- of single size

@@ -3,7 +3,7 @@ use Rattle.std.proofs.Common.{arith}
 use Rattle.cept_codes.specs.declared.look.Part.{Part}
 use Rattle.cept_codes.specs.declared.attribute.Size.{Size}
 use Rattle.cept_codes.specs.declared.attribute.Size.TheVariants as sizes
-use Rattle.cept_profile.specs.Tiling.{column_entry, covers_below, is_high, is_wide, part_below, part_to_the_right}
+use Rattle.cept_profile.specs.Tiling.{column_entry, covers_below, is_high, is_wide}
 use Rattle.cept_profile.specs.Tiling.{single_part}
 use Rattle.cept_codes.specs.Look.{IsValidPart}
 use Rattle.cept_codes.specs.Table.{row_of}
@@ -47,12 +47,13 @@ loop-k-preserved c =
       | then-covers_below w ↦
           more false high w.below.result c.loop-k.invariant c.loop-k-test.true
           (IsMade-below a al ar l w.below.result size last high (k + 1) (covers ∙ w.if-covers_below.true)
-          (w.below.ensures ∙ ap part_below (sym (here _))))
+          (w.below.ensures ∙ ap (λ (p : Part). let q : Part = record p { dy = 1 } in q) (sym (here _))))
           w.parts-is w.wide-is w.high-is
       | else-covers_below+then-wide w ↦
           more false high w.to_the_right.result c.loop-k.invariant c.loop-k-test.true
           (IsMade-right a al ar l w.to_the_right.result size last high high (k + 1) (covers ∙ w.if-covers_below.false)
-          (left true w.if-wide.true) (w.to_the_right.ensures ∙ ap part_to_the_right w.origin.ensures))
+          (left true w.if-wide.true) (w.to_the_right.ensures
+          ∙ ap (λ (p : Part). let q : Part = record p { dy = 0; dx = 1 } in q) w.origin.ensures))
           w.parts-is w.wide-is w.high-is
       | else-covers_below+else-wide+then-is_single w ↦
           more false high single_part c.loop-k.invariant c.loop-k-test.true

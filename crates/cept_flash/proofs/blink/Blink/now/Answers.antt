@@ -13,7 +13,7 @@ unfolding frame
 returns-clause-look c =
     let g = c.self.inside.kept.rows in
     let k = c.self.inside.phase in
-    c.look_at_phase.ensures.look ∙ ap (λ (l : Look). look_at_phase l k) c.shown.ensures.look
+    c.look_at_phase.ensures.look ∙ ap (λ (l : Look). look_at_phase l k) c.shown_look.ensures.look
     ∙ sym (value_at-table (λ r col. look_at_phase (value_at blank_look g r col) k) blank_look c.args.at.row c.args.at.column
     c.row-row.ensures.on_screen)
     ∙ ap (λ (b : FlashingGrid). look_at (frame b.looks b.phase) c.args.at) c.self.view_is

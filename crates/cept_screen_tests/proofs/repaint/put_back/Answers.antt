@@ -1,7 +1,7 @@
 use Rattle.std.proofs.Common.{sym, subst, ◌∙◌}
 use Rattle.cept_profile.specs.State.{State}
 use Rattle.cept_profile.specs.Valid.{IsValidState}
-use Rattle.cept_screen_tests.proofs.repaint.taken_back.Goals as goal
+use Rattle.cept_screen_tests.proofs.repaint.put_back.Goals as goal
 
 pub restore-requires : goal.restore-requires
 restore-requires g c =
