@@ -2,7 +2,7 @@
 import { Looks, readCheck, readTrace } from "./shared.js";
 import { AskFault, BadLine } from "./faults.js";
 import { PageItems, readItems } from "./items.js";
-import { Live } from "./live.js";
+import { Live, takingsOf } from "./live.js";
 import { STATUS } from "./statuses.js";
 
 /** @typedef {import("./types.js").Check} Check */
@@ -68,8 +68,12 @@ export class Asker {
    * @param {Known} known
    */
   live(page, known) {
+    return new Live(this.instanceOfAll(), page, known);
+  }
+
+  instanceOfAll() {
     this.instance = this.instance || new WebAssembly.Instance(this.module);
-    return new Live(this.instance, page, known);
+    return this.instance;
   }
 
   /**
@@ -99,6 +103,15 @@ export class Asker {
   /** @param {Uint8Array} page */
   list(page) {
     return readItems(textOf(this.put("list", { page })));
+  }
+
+  /**
+   * How bytes of a page are taken at some places, each behind the one before.
+   * @param {Uint8Array} page
+   * @param {number[]} places
+   */
+  takings(page, places) {
+    return takingsOf(this.instanceOfAll(), page, places);
   }
 
   /**

@@ -1,5 +1,5 @@
 // Cuts of the stored page: after an item, with or without lines of the script that do what is behind it. What stood before each is kept, so that a
-// cut is undone and made again as other actions are.
+// cut is undone and redone as other actions are.
 import { linesAfter } from "./items.js";
 
 /** @typedef {import("./items.js").PageItems} PageItems */
@@ -69,7 +69,7 @@ export class Cuts {
     const { nothings } = sheet.making;
     const old = sheet.lines.filter((_, index) => !nothings.includes(index + 1));
     for (const inWords of [true, false]) {
-      const found = linesAfter(items, count, (bytes) => asker.list(bytes), inWords);
+      const found = linesAfter(items, count, asker, inWords);
       if (!found) continue;
       const script = [...found.lines, ...(found.lines.length && old.length ? [""] : []), ...old].map((line) => `${line}\n`).join("");
       this.cut(items, found.count, script);
@@ -84,7 +84,7 @@ export class Cuts {
    * Takes the last cut back, or makes the one that was undone last again, where it is what was done last. Answers whether it was.
    * @param {"undo" | "redo"} word
    */
-  turn(word) {
+  undoRedo(word) {
     return word === "undo" ? this.undo() : this.redo();
   }
 

@@ -1,9 +1,10 @@
 // The panel of drawing. A drawing of points, lines and boxes is handed to the program (`plot`); the cells that it says are other mosaics
 // become one line of the script, with the chosen pen, and what that line shows is seen before it is kept.
-import { COLUMNS, readCells } from "./shared.js";
+import { COLUMNS, ROWS, readCells } from "./shared.js";
 import { speak, word } from "./words.js";
 import { BadLine } from "./faults.js";
 import { inGrammar, raw, sameBytes } from "./lines.js";
+import { Steps, kindOf } from "./steps.js";
 import { button, group, inLine, make, part, rove } from "./controls.js";
 
 /** @typedef {import("./types.js").Look} Look */
@@ -33,6 +34,11 @@ const shapeOf = (look) => look.text.split(" ")[0];
  * @param {Look} look
  */
 const isMosaic = (look) => look.set === "M" && !look.down && !look.right;
+/**
+ * The lines of a drawing in a text.
+ * @param {string} text
+ */
+const linesOf = (text) => text.split("\n").map(inGrammar).filter((line) => line !== "");
 /** @param {number} cell */
 const placeOf = (cell) => [Math.floor(cell / COLUMNS) + 1, (cell % COLUMNS) + 1];
 
@@ -80,6 +86,12 @@ export class Drawing {
     this.tool = null;
     /** @type {string[]} */
     this.lines = [];
+    // How the lines came about: each stroke is a step.
+    this.steps = new Steps();
+    this.strokes = 0;
+    // The lines that were told last, and whether they could be tried on the page.
+    this.said = "";
+    this.isTried = false;
     this.cursor = { x: 0, y: 0 };
     /** @type {Point | null} */
     this.anchor = null;
@@ -90,7 +102,7 @@ export class Drawing {
     this.drawn = null;
     const disabled = !needs.asker.canPlot;
     const field = { id: "drawing", rows: 4, cols: 22, spellcheck: "false", name: "drawText", disabled };
-    this.text = make("textarea", { ...field, oninput: () => this.typed() });
+    this.text = make("textarea", { ...field, oninput: (/** @type {Event} */ event) => this.typed(kindOf(event)) });
     this.keepers = [button("drawKeep", () => this.keep(), { class: "main" }), button("drawDrop", () => this.drop())];
     this.build();
   }
@@ -134,6 +146,11 @@ export class Drawing {
     return this.tool !== null;
   }
 
+  // How many points the rows of the format have one above the other.
+  tall() {
+    return (POINTS_TALL / ROWS) * this.needs.sheet.rows;
+  }
+
   /** @param {string | null} tool */
   take(tool) {
     this.tool = tool;
@@ -164,6 +181,7 @@ export class Drawing {
   /** @param {string} line */
   add(line) {
     if (this.lines[this.lines.length - 1] !== line) this.lines.push(line);
+    this.steps.note(this.underWay(), `stroke ${this.strokes}`);
   }
 
   /**
@@ -173,6 +191,7 @@ export class Drawing {
   down(point) {
     if (!this.needs.ready()) return;
     this.anchor = this.cursor = point;
+    this.strokes++;
     if (this.isFree()) this.add(this.figure(point, point));
     this.show();
   }
@@ -202,12 +221,15 @@ export class Drawing {
    */
   key(event) {
     /** @type {Record<string, [number, number]>} */
-    const steps = { ArrowUp: [0, -1], ArrowDown: [0, 1], ArrowLeft: [-1, 0], ArrowRight: [1, 0] };
+    const steps = {
+      ArrowUp: [0, -1], ArrowDown: [0, 1], ArrowLeft: [-1, 0], ArrowRight: [1, 0],
+      Home: [-POINTS_WIDE, 0], End: [POINTS_WIDE, 0], PageUp: [0, -POINTS_TALL], PageDown: [0, POINTS_TALL],
+    };
     const step = steps[event.key];
     if (step) {
       /** @type {(value: number, most: number) => number} */
       const within = (value, most) => Math.min(most - 1, Math.max(0, value));
-      this.moveTo({ x: within(this.cursor.x + step[0], POINTS_WIDE), y: within(this.cursor.y + step[1], POINTS_TALL) });
+      this.moveTo({ x: within(this.cursor.x + step[0], POINTS_WIDE), y: within(this.cursor.y + step[1], this.tall()) });
     } else if (event.key === " ") {
       if (this.anchor) this.up();
       else this.down(this.cursor);
@@ -217,8 +239,13 @@ export class Drawing {
     return true;
   }
 
-  typed() {
-    this.lines = this.text.value.split("\n").map(inGrammar).filter((line) => line !== "");
+  /**
+   * Takes the lines of the field. Another line is another step.
+   * @param {string} kind
+   */
+  typed(kind) {
+    this.lines = linesOf(this.text.value);
+    this.steps.note(this.underWay(), kind && `${kind} ${this.lines.length}`);
     this.show();
   }
 
@@ -227,7 +254,7 @@ export class Drawing {
    * @returns {string[]}
    */
   all() {
-    const pending = this.anchor && !this.isFree() ? [this.figure(this.anchor, this.cursor)] : [];
+    const pending = this.anchor && this.isBegun() ? [this.figure(this.anchor, this.cursor)] : [];
     return [...this.lines, ...pending];
   }
 
@@ -270,52 +297,110 @@ export class Drawing {
     part("draw-fault").textContent = text;
   }
 
-  // Shows the drawing as it would be kept.
+  // Puts the lines into their field.
+  put() {
+    const text = this.underWay();
+    if (this.text.value === text) return;
+    this.text.value = text;
+    this.text.scrollTop = this.text.scrollHeight;
+  }
+
+  // Shows the drawing as it would be kept. Where a person is writing its lines these stay as they are.
   show() {
     const lines = this.all();
-    const text = this.lines.join("\n");
-    if (document.activeElement !== this.text && this.text.value !== text) {
-      this.text.value = text;
-      this.text.scrollTop = this.text.scrollHeight;
-    }
+    if (document.activeElement !== this.text) this.put();
     this.mark();
     this.fault("");
     this.drawn = null;
-    if (lines.length && this.needs.ready()) this.tryLine(lines);
-    this.tell({ kind: "seen" });
+    this.isTried = lines.length > 0 && this.needs.ready() && this.tryLine(lines);
+    const isOther = this.said !== this.underWay();
+    this.said = this.underWay();
+    this.tell({ kind: isOther ? "drawn" : "seen" });
   }
 
-  /** @param {string[]} lines */
+  /**
+   * Tries lines on the page; one that is wrong is told. Answers whether there is none.
+   * @param {string[]} lines
+   */
   tryLine(lines) {
     try {
       const { line, wanted } = this.line(lines);
       this.drawn = line ? { line, grid: this.preview(line, wanted) } : null;
+      return true;
     } catch (fault) {
       if (!(fault instanceof BadLine)) throw fault;
       this.fault(word("drawBad", { ...fault, why: word(fault.name) }));
+      return false;
     }
   }
 
-  // Makes the drawing a line of the script, after a comment that says what was drawn.
+  // Makes the drawing a line of the script, after a comment that says what was drawn. One that can't be tried stays, and it is said why.
   keep() {
-    const { drawn, lines } = this;
-    this.forget();
-    if (drawn) this.tell({ kind: "act", lines: [`# ${lines.join("; ")}`, drawn.line] });
+    const { drawn, lines, isTried } = this;
+    if (isTried) this.forget();
+    if (isTried && drawn) this.tell({ kind: "act", lines: [`# ${lines.join("; ")}`, drawn.line] });
+    if (isTried) this.put();
     this.show();
   }
 
-  // Tries the drawing again, after the script was changed.
-  again() {
-    if (this.lines.length) this.show();
+  /**
+   * The lines as they are stored until they are kept.
+   * @returns {string}
+   */
+  underWay() {
+    return this.lines.join("\n");
   }
 
-  drop() {
+  /**
+   * Goes on with lines that were stored; without any there is no drawing.
+   * @param {string} text
+   */
+  goOn(text) {
     this.forget();
+    for (const line of linesOf(text)) {
+      this.strokes++;
+      this.add(line);
+    }
+    this.put();
+    this.show();
+  }
+
+  /**
+   * Gives up the figure that is begun, or takes the last one back, or draws it again. Answers whether there was any.
+   * @param {"undo" | "redo"} by
+   */
+  undoRedo(by) {
+    if (!this.drawing() || (!this.isBegun() && this.steps.undoRedo(by) === null)) return false;
+    this.anchor = null;
+    this.lines = linesOf(this.steps.text);
+    this.put();
+    this.show();
+    return true;
+  }
+
+  // Whether a figure is begun that isn't among the lines yet.
+  isBegun() {
+    return this.anchor !== null && !this.isFree();
+  }
+
+  // Tries the drawing again, after the script was changed. One that was taken back whole isn't drawn again after that.
+  again() {
+    if (this.lines.length) this.show();
+    else this.forget();
+  }
+
+  // Gives the drawing up, as a step that can be taken back.
+  drop() {
+    this.lines = [];
+    this.anchor = null;
+    this.steps.note("");
+    this.put();
     this.show();
   }
 
   forget() {
     this.lines = [];
+    this.steps = new Steps();
     this.anchor = this.drawn = null;
   }
 

@@ -15,12 +15,13 @@ import { ScriptPane } from "./script.js";
 import { Cuts } from "./cuts.js";
 import { Listing } from "./listing.js";
 import { Keep, savedOf } from "./keep.js";
+import { isBegun } from "./store.js";
 
 const PHASE_TIME = 1000 / PHASES;
 const PAUSE = 250;
 // A script of so many lines is laid out after the pause alone.
 const LONG_SCRIPT = 250;
-const [LEAST_CELL, STILL_CELL] = [8, 24];
+const [LEAST_CELL, STILL_CELL] = [7, 24];
 // Pixels of the page for what stands above and below the screen.
 const ROOM_BELOW = 262;
 const WRITES_ON = "#pen button, #mosaic button, #draw button, #undo, #redo";
@@ -56,18 +57,19 @@ class Editor {
     const ready = () => this.ready();
     const named = { paints: () => this.paints(), entryName: (/** @type {number} */ entry) => this.entryName(entry) };
     const pen = new Pen({ sheet, ...named }, tell);
-    const typing = new Typing({ sheet, pen, ready, drawingKey: (event) => this.drawingKey(event) }, tell);
+    const typing = new Typing({ sheet, pen, ready: () => this.writes() && ready(), drawingKey: (event) => this.drawingKey(event) }, tell);
     this.pen = pen;
     this.typing = typing;
     this.script = new ScriptPane(sheet, tell);
     this.mosaic = new Mosaic(tell);
     this.drawing = new Drawing({ sheet, asker, pen, ready, caret: () => typing }, tell);
-    this.pattern = new PatternEditor({ sheet, asker }, tell);
+    this.pattern = new PatternEditor({ sheet, asker, ready }, tell);
     this.panel = new Whole({ sheet, at: () => typing.at(), ...named }, tell);
     this.colours = new ColourPanel(named, tell);
     this.listing = new Listing({ sheet, asker }, tell);
     this.cuts = new Cuts({ sheet, asker });
-    this.keep = new Keep({ sheet, asker, cuts: this.cuts, ready, still: () => this.still() }, tell);
+    const underWay = () => ({ drawing: this.drawing.underWay(), painted: this.pattern.underWay() });
+    this.keep = new Keep({ sheet, asker, cuts: this.cuts, ready, still: () => this.still(), underWay, finish: () => this.finish() }, tell);
     /** @type {import("./types.js").Look[]} */
     this.seen = [];
     this.screen.looks = this.seen;
@@ -99,9 +101,12 @@ class Editor {
         this.script.toEnd();
         this.script.speak();
         return this.paint();
+      case "drawn":
+        this.listing.toEnd();
+        return this.show();
       case "pointed": return this.outline();
       case "cut": return this.cut(happening);
-      case "taken": return this.open(happening.page, happening.script, happening.cuts);
+      case "taken": return this.open(happening.kept);
       case "named": return this.show();
       default: return this.tell(happening.text, happening.isFault);
     }
@@ -125,16 +130,29 @@ class Editor {
   }
 
   /**
-   * @param {Uint8Array} page
-   * @param {string} script
-   * @param {import("./cuts.js").Stored[]} cuts
+   * Whether it is written at the caret: while something is drawn it isn't, which is said.
+   * @returns {boolean}
    */
-  open(page, script, cuts) {
+  writes() {
+    if (this.drawing.drawing()) this.tell(word("drawsOnly", { tab: word("tabPen") }));
+    return !this.drawing.drawing();
+  }
+
+  // Makes what is drawn or painted lines of the script, where that can be.
+  finish() {
+    this.drawing.keep();
+    this.pattern.finish();
+  }
+
+  /** @param {import("./store.js").Kept} kept */
+  open({ page, script, cuts, drawing, painted }) {
+    this.tell("");
     this.sheet.open(page, script);
     this.cuts.take(cuts);
     this.typing.reset();
-    this.drawing.forget();
     this.isOther();
+    this.drawing.goOn(drawing);
+    this.pattern.goOn(painted);
   }
 
   // Another stored page is there.
@@ -179,14 +197,26 @@ class Editor {
     this.changed(true);
   }
 
+  /**
+   * Undo and redo by a key or a button: in the script's field of what was written there, else of what is drawn, and then of actions.
+   * @param {"undo" | "redo"} by
+   * @param {boolean} [inScript]
+   */
+  undoRedo(by, inScript = false) {
+    const isDone = inScript ? this.script.undoRedo(by) : this.drawing.undoRedo(by);
+    if (!isDone) this.undoRedoAction(by);
+  }
+
   /** @param {"undo" | "redo"} by */
-  turn(by) {
+  undoRedoAction(by) {
     if (!this.ready()) return;
     this.typing.end();
-    const isCut = this.cuts.turn(by);
-    const done = isCut || this.sheet.turn(by);
+    const begun = by === "undo" ? this.sheet.beginning() : null;
+    const isCut = this.cuts.undoRedo(by);
+    const done = isCut || this.sheet.undoRedo(by);
     if (isCut) this.isOther();
     if (done) this.typing.arrive(null);
+    if (done && begun && !isCut) this.typing.place(...begun);
     this.changed(false, isCut);
     if (!done) this.tell(word(by === "undo" ? "noUndo" : "noRedo"));
   }
@@ -209,6 +239,7 @@ class Editor {
     this.listing.toEnd();
     this.tell("");
     this.storesPage = this.storesPage || isCut;
+    this.typing.bound();
     this.drawing.again();
     this.show(typed);
   }
@@ -262,6 +293,7 @@ class Editor {
     this.stopFlash();
     this.seeGrid(this.grid());
     this.outline();
+    this.shade();
     this.placeCaret();
     clearTimeout(this.waiting);
     this.waiting = window.setTimeout(() => this.rest(), PAUSE);
@@ -279,6 +311,13 @@ class Editor {
 
   outline() {
     this.screen.outline(this.listing.step === null ? this.script.outlined() : this.listing.outlined(), this.pointed);
+  }
+
+  // Shades the rows below the format, as it is at the end.
+  shade() {
+    const { rows } = this.sheet;
+    part("beyond").hidden = rows === ROWS || this.isStepping();
+    part("beyond").style.top = `${(100 * rows) / ROWS}%`;
   }
 
   placeCaret() {
@@ -309,7 +348,9 @@ class Editor {
     const place = word("where", { row: Math.floor(this.pointed / COLUMNS) + 1, column: (this.pointed % COLUMNS) + 1 });
     const lines = this.script.step === null ? Infinity : this.script.step;
     const line = this.listing.step === null ? this.sheet.making.lineOf(this.pointed, lines) : 0;
-    say("where", `${place}: ${look.text}${line ? ` (${word("madeBy", { line })})` : ""}`);
+    const { rows } = this.sheet;
+    const what = this.pointed < rows * COLUMNS ? look.text : word("beyond", { rows });
+    say("where", `${place}: ${what}${line ? ` (${word("madeBy", { line })})` : ""}`);
   }
 
   /** @param {number} cell */
@@ -335,7 +376,7 @@ class Editor {
   rest() {
     clearTimeout(this.waiting);
     this.waiting = 0;
-    if (this.sheet.lines.length >= LONG_SCRIPT && document.activeElement !== part("script")) this.script.show();
+    if (this.sheet.lines.length >= LONG_SCRIPT) this.script.show();
     const page = this.sheet.edited();
     const { items, refused } = this.asker.check(page);
     const same = this.showsSame(page);
@@ -420,6 +461,7 @@ class Editor {
   /** @param {string} language */
   speak(language) {
     setLanguage(language);
+    this.tell("");
     part("script").placeholder = word("scriptHint");
     this.speakPanels();
     this.showRefusals();
@@ -477,7 +519,7 @@ function joinScreen(editor) {
     const place = (value, size, count) => Math.min(count - 1, Math.max(0, Math.floor((value / size) * count)));
     return {
       x: place(event.clientX - bounds.left, bounds.width, POINTS_WIDE),
-      y: place(event.clientY - bounds.top, bounds.height, POINTS_TALL),
+      y: Math.min(place(event.clientY - bounds.top, bounds.height, POINTS_TALL), drawing.tall() - 1),
     };
   };
   box.addEventListener("pointerdown", (/** @type {PointerEvent} */ event) => {
@@ -503,13 +545,13 @@ function joinScreen(editor) {
 }
 
 /**
- * Keys that go everywhere; in the script and in fields undo is the browser's own.
+ * Keys that go everywhere.
  * @param {Editor} editor
  * @param {KeyboardEvent} event
  */
 function onKey(editor, event) {
   const target = /** @type {HTMLElement} */ (event.target);
-  const isText = target.matches("#script, #drawing");
+  const inScript = target.id === "script";
   const letter = event.key.toLowerCase();
   if (part("unsaved").open || part("help-part").open) return;
   if (event.key === "Escape") {
@@ -517,20 +559,33 @@ function onKey(editor, event) {
     return;
   }
   if (!(event.ctrlKey || event.metaKey) || event.altKey) return;
+  editor.script.settle();
   if (letter === "s") editor.keep.keepPage();
-  else if (isText) return;
-  else if (letter === "z" && !event.shiftKey) editor.turn("undo");
-  else if (letter === "y" || letter === "z") editor.turn("redo");
+  else if (letter === "z" && !event.shiftKey) editor.undoRedo("undo", inScript);
+  else if (letter === "y" || letter === "z") editor.undoRedo("redo", inScript);
   else return;
   event.preventDefault();
+}
+
+/**
+ * The browser's own undo, as its menu has it, would go over all fields together.
+ * @param {Editor} editor
+ * @param {InputEvent} event
+ */
+function onInput(editor, event) {
+  const by = event.inputType === "historyUndo" ? "undo" : event.inputType === "historyRedo" ? "redo" : null;
+  if (!by) return;
+  event.preventDefault();
+  editor.script.settle();
+  editor.undoRedo(by, event.target === part("script"));
 }
 
 /** @param {Editor} editor */
 function joinControls(editor) {
   /** @type {(id: string, kind: string, act: () => void) => void} */
   const on = (id, kind, act) => part(id).addEventListener(kind, act);
-  on("undo", "click", () => editor.turn("undo"));
-  on("redo", "click", () => editor.turn("redo"));
+  on("undo", "click", () => editor.undoRedo("undo"));
+  on("redo", "click", () => editor.undoRedo("redo"));
   on("help", "click", () => part("help-part").showModal());
   on("help-close", "click", () => part("help-part").close());
   on("language", "change", () => editor.speak(part("language").value));
@@ -541,6 +596,7 @@ function joinControls(editor) {
   on("font", "change", () => editor.letters(part("font").checked));
   on("reveal", "change", () => editor.screen.turn(0, part("reveal").checked));
   document.addEventListener("keydown", (event) => onKey(editor, event));
+  document.addEventListener("beforeinput", (event) => onInput(editor, event));
   // After a click of the mouse on a tool the keys go on writing.
   document.addEventListener("click", (event) => {
     const writesOn = event.target instanceof Element && event.target.closest(WRITES_ON);
@@ -557,6 +613,7 @@ function joinControls(editor) {
       editor.pattern.mark();
       editor.pattern.show();
     }
+    if (panel === "draw") editor.typing.end();
     editor.drawing.begin(panel === "draw");
   });
 }
@@ -578,6 +635,7 @@ async function begin() {
   window.addEventListener("pagehide", () => {
     if (editor.later) editor.painted();
   });
+  if (kept && isBegun(kept)) part(kept.drawing ? "tab-draw" : "tab-pattern").click();
   part("typing").focus();
   if (kept) editor.tell(word("restored", { name: editor.keep.shownName() }));
   // For tests, which look into it.

@@ -14,7 +14,7 @@ import { hex, inGrammar } from "./lines.js";
 const ITEM = /^(0|[1-9]\d*) ([1-9]\d*) ([A-Z][A-Z0-9-]*)((?: [^ ]+)*)$/;
 // What does nothing, and can't stand in a script.
 const DEAD = ["REFUSED", "SKIPPED"];
-const [GRAPHIC, LOCK] = ["GRAPHIC", "LS0"];
+const [GRAPHIC, LOCK, SHIFTS] = ["GRAPHIC", "LS0", ["SS2", "SS3"]];
 /** @type {(word: string) => (words: string[]) => string} */
 const plain = (word) => () => word;
 /** @type {(word: string) => (words: string[]) => string} */
@@ -143,22 +143,58 @@ export class PageItems {
   }
 
   /**
-   * What the signs are that an item writes, or null where it writes something else. A sign that changes nothing is taken for a blank.
-   * @param {Item} item
+   * What an item writes: empty for a shift or an accent that waits for its sign, null where it writes no letter. A sign that changes nothing
+   * is known by its byte where that is one of `text`, and else is taken for a blank.
+   * @param {number} index
+   * @param {Taking} before
+   * @param {Taking} after
    */
-  letterOf(item) {
-    if (item.name !== GRAPHIC) return null;
-    const index = firstOf(this.items.length, (at) => this.items[at].place >= item.place);
+  letterOf(index, before, after) {
+    const { name } = this.items[index];
+    if (after.waits && [GRAPHIC, ...SHIFTS].includes(name)) return "";
+    if (name !== GRAPHIC) return null;
     const change = this.changesOf(index);
-    if (change === this.changesOf(index + 1)) return " ";
+    if (change === this.changesOf(index + 1)) {
+      const [code] = this.bytesIn(this.items[index]);
+      return before.isText && code < 0x80 ? unicodeOf({ kind: "sign", set: "P", code, accent: 0 }) : " ";
+    }
     const look = this.course.looks[this.course.numbers[change]];
     return look.kind === "space" ? " " : look.kind === "sign" && ["P", "S"].includes(look.set) ? unicodeOf(look).normalize("NFC") : null;
+  }
+
+  /**
+   * The items behind the first so many that do something, each with its letter.
+   * @param {number} count
+   * @param {Reads} reads
+   * @returns {Written[]}
+   */
+  writtenAfter(count, reads) {
+    const items = this.items.slice(count);
+    const taken = reads.takings(this.page, [...items.map(({ place }) => place), this.page.length]);
+    const written = items.map((item, at) => ({ item, letter: this.letterOf(count + at, taken[at], taken[at + 1]), isText: taken[at].isText }));
+    return written.filter(({ item }) => !DEAD.includes(item.name));
   }
 }
 
 /**
- * Items that become one line: the line that says them, or null where their bytes do.
- * @typedef {{ items: Item[], line: string | null }} Piece
+ * How bytes are taken at a place of a page: whether left ones are letters, as behind the lock of `text`, and whether a shift or an accent
+ * waits for its sign.
+ * @typedef {{ isText: boolean, waits: boolean }} Taking
+ */
+
+/**
+ * What reads bytes: the items of these by themselves, and how those of a page are taken at some places, each behind the one before.
+ * @typedef {{ list: (bytes: Uint8Array) => Item[], takings: (page: Uint8Array, places: number[]) => Taking[] }} Reads
+ */
+
+/**
+ * An item with what it writes, and whether `text` may write it.
+ * @typedef {{ item: Item, letter: string | null, isText: boolean }} Written
+ */
+
+/**
+ * Items that become one line: the line that says them, or null where their bytes do; and the letters that these write.
+ * @typedef {{ items: Item[], line: string | null, letters: string }} Piece
  */
 
 /**
@@ -168,43 +204,51 @@ export class PageItems {
 const lineOfItem = ({ name, words }) => (LINES[name] ? LINES[name](words) : null);
 
 /**
- * The line `text` of items, or null where it would say something else: it locks G0, and then writes.
- * @param {Item[]} items
- * @param {PageItems} all
+ * Behind which of some items the letters end that begin with one of them; a shift or an accent belongs to the letter behind it.
+ * @param {Written[]} written
+ * @param {number} from
  */
-function textOf(items, all) {
-  if (items.length < 2 || items[0].name !== LOCK || items.slice(1).some(({ name }) => name !== GRAPHIC)) return null;
-  const codes = items.slice(1).flatMap((item) => [...all.bytesIn(item)]);
-  const line = `text ${String.fromCharCode(...codes)}`;
-  return codes.every((code) => code >= 0x20 && code < 0x7f) && inGrammar(line) === line ? line : null;
+function endOfLetters(written, from) {
+  let end = from;
+  for (let at = from; at < written.length && written[at].letter !== null; at++) if (written[at].letter) end = at + 1;
+  return end;
 }
 
 /**
- * The pieces of items one after the other: those that are said in words, and neighbours that bytes say.
- * @param {Item[]} items
+ * The line `text` that locks G0 and writes letters, or null where it can't say them.
+ * @param {Written[]} letters
+ * @param {PageItems} all
+ */
+function textOf(letters, all) {
+  const codes = letters.flatMap(({ item }) => [...all.bytesIn(item)]);
+  const line = `text ${codes.map((code) => String.fromCharCode(code)).join("")}`;
+  const isPlain = letters.every(({ letter, isText }) => letter && isText) && codes.every((code) => code >= 0x20 && code < 0x7f);
+  return isPlain && inGrammar(line) === line ? line : null;
+}
+
+/**
+ * The pieces of items one after the other: letters, with the lock before them; others that are said in words; and neighbours that bytes say.
+ * @param {Written[]} written
  * @param {PageItems} all
  * @returns {Piece[]}
  */
-function piecesOf(items, all) {
+function piecesOf(written, all) {
   /** @type {Piece[]} */
   const pieces = [];
-  for (let at = 0; at < items.length;) {
-    let end = at + 1;
-    if (items[at].name === LOCK) while (end < items.length && items[end].name === GRAPHIC) end++;
-    const text = textOf(items.slice(at, end), all);
-    const line = text || lineOfItem(items[at]);
+  for (let at = 0; at < written.length;) {
+    const first = at + (written[at].item.name === LOCK ? 1 : 0);
+    const end = endOfLetters(written, first);
+    const part = written.slice(at, Math.max(end, at + 1));
+    const line = end > first ? textOf(written.slice(first, end), all) : lineOfItem(part[0].item);
+    const letters = end > first ? part.map(({ letter }) => letter).join("").trim() : "";
     const last = pieces[pieces.length - 1];
-    if (!line && last && !last.line) last.items.push(items[at]);
-    else pieces.push({ items: text ? items.slice(at, end) : [items[at]], line });
-    at = text ? end : at + 1;
+    const isMore = last && [line, letters, last.line, last.letters].every((said) => !said);
+    if (!isMore) pieces.push({ items: [], line, letters });
+    for (const { item } of part) pieces[pieces.length - 1].items.push(item);
+    at += part.length;
   }
   return pieces;
 }
-
-/**
- * What reads the items of bytes by themselves.
- * @typedef {(bytes: Uint8Array) => Item[]} Lists
- */
 
 /**
  * @param {Item[]} items
@@ -213,13 +257,14 @@ function piecesOf(items, all) {
 const bytesOfItems = (items, all) => Uint8Array.from(items.flatMap((item) => [...all.bytesIn(item)]));
 
 /**
- * Whether the bytes of items are the same items by themselves, as those inside a unit that began before aren't.
- * @param {Item[]} items
+ * Whether the bytes of a piece are the same items by themselves: as letters are, and those inside a unit that began before aren't.
+ * @param {Piece} piece
  * @param {PageItems} all
- * @param {Lists} lists
+ * @param {Reads} reads
  */
-function stand(items, all, lists) {
-  const found = lists(bytesOfItems(items, all));
+function stands({ items, line, letters }, all, reads) {
+  if (line || letters) return true;
+  const found = reads.list(bytesOfItems(items, all));
   return found.length === items.length && found.every((item, at) => item.length === items[at].length && whatOf(item) === whatOf(items[at]));
 }
 
@@ -227,17 +272,17 @@ function stand(items, all, lists) {
  * The pieces with each that bytes say joined to those before it as far as it needs them; null where the first needs more.
  * @param {Piece[]} pieces
  * @param {PageItems} all
- * @param {Lists} lists
+ * @param {Reads} reads
  */
-function joined(pieces, all, lists) {
+function joined(pieces, all, reads) {
   /** @type {Piece[]} */
   const done = [];
   for (const piece of pieces) {
     let whole = piece;
-    while (!whole.line && !stand(whole.items, all, lists)) {
+    while (!stands(whole, all, reads)) {
       const before = done.pop();
       if (!before) return null;
-      whole = { items: [...before.items, ...whole.items], line: null };
+      whole = { items: [...before.items, ...whole.items], line: null, letters: "" };
     }
     done.push(whole);
   }
@@ -245,15 +290,12 @@ function joined(pieces, all, lists) {
 }
 
 /**
- * The lines of a piece: of bytes after a comment that can be read, where they write letters.
+ * The lines of a piece: of bytes after a comment with the letters that they write.
  * @param {Piece} piece
  * @param {PageItems} all
  */
-function linesOfPiece({ items, line }, all) {
-  if (line) return [line];
-  const letters = items.map((item) => all.letterOf(item));
-  const comment = letters.every((letter) => letter !== null) ? letters.join("").trim() : "";
-  return [...(comment ? [`# ${comment}`] : []), `raw ${hex(bytesOfItems(items, all))}`];
+function linesOfPiece({ items, line, letters }, all) {
+  return line ? [line] : [...(letters ? [`# ${letters}`] : []), `raw ${hex(bytesOfItems(items, all))}`];
 }
 
 /**
@@ -261,15 +303,16 @@ function linesOfPiece({ items, line }, all) {
  * stand by itself. In words where there are some, or by bytes alone; null where bytes that are refused can't be left out.
  * @param {PageItems} all
  * @param {number} count
- * @param {Lists} lists
+ * @param {Reads} reads
  * @param {boolean} inWords
  * @returns {{ count: number, lines: string[] } | null}
  */
-export function linesAfter(all, count, lists, inWords) {
+export function linesAfter(all, count, reads, inWords) {
   for (let from = count; from >= 0; from--) {
-    const items = all.items.slice(from).filter(({ name }) => !DEAD.includes(name));
-    const pieces = inWords ? piecesOf(items, all) : items.length ? [{ items, line: null }] : [];
-    const found = joined(pieces, all, lists);
+    const written = all.writtenAfter(from, reads);
+    const items = written.map(({ item }) => item);
+    const pieces = inWords ? piecesOf(written, all) : items.length ? [{ items, line: null, letters: "" }] : [];
+    const found = joined(pieces, all, reads);
     if (found) return { count: from, lines: found.flatMap((piece) => linesOfPiece(piece, all)) };
   }
   return null;

@@ -3,33 +3,51 @@ import { TABLES, word } from "./words.js";
 import { STATUS } from "./statuses.js";
 import { textOf } from "./ask.js";
 import { AskFault } from "./faults.js";
-import { Store, toLetters } from "./store.js";
+import { Store, isBegun, toLetters } from "./store.js";
 import { part } from "./controls.js";
 
 /** @typedef {import("./types.js").Tell} Tell */
 
 /**
- * The script, the program, the cuts of the page, whether lines can be added, and a picture of the page.
+ * The script, the program, the cuts of the page, whether lines can be added, and a picture of the page; what is drawn or painted and isn't
+ * in the script yet, and what makes it lines, where that can be.
  * @typedef {{
  *   sheet: import("./sheet.js").Sheet, asker: import("./ask.js").Asker, cuts: import("./cuts.js").Cuts, ready: () => boolean,
- *   still: () => HTMLCanvasElement,
+ *   still: () => HTMLCanvasElement, underWay: () => import("./store.js").UnderWay, finish: () => void,
  * }} Needs
  */
 
 const ENDING = /\.(btx|script|txt)$/i;
+const IS_PAGE = /\.btx$/i;
 const IS_SCRIPT = /\.(script|txt)$/i;
+const IS_DRAWING = /\.drawing$/i;
 // Each phase of the flash once, and back to the first.
 const TURNS = 6;
 
 /**
- * Which of some files is a script, and which a page.
+ * Which of some files is a script, and which a page, as all are that are neither scripts nor drawings; the rest isn't opened.
  * @template {{ name: string }} F
  * @param {F[]} files
- * @returns {{ script: F | undefined, page: F | undefined }}
+ * @returns {{ script: F | undefined, page: F | undefined, rest: F[] }}
  */
 export function sortedFiles(files) {
-  const script = files.find((file) => IS_SCRIPT.test(file.name));
-  return { script, page: files.find((file) => file !== script) };
+  const script = files.find(({ name }) => IS_SCRIPT.test(name));
+  const page = files.find(({ name }) => !IS_SCRIPT.test(name) && !IS_DRAWING.test(name));
+  return { script, page, rest: files.filter((file) => file !== script && file !== page) };
+}
+
+/**
+ * What is to be said of files by their names: of a page that isn't named as one, of drawings, and of what else isn't opened.
+ * @param {string | null} page
+ * @param {string[]} rest
+ */
+export function remarksOn(page, rest) {
+  const [drawings, others] = [true, false].map((isOne) => rest.filter((name) => IS_DRAWING.test(name) === isOne).join(", "));
+  return [
+    page && !IS_PAGE.test(page) ? word("takenAsPage", { name: page }) : "",
+    drawings ? word("drawingLeft", { names: drawings }) : "",
+    others ? word("leftOut", { names: others }) : "",
+  ].filter((said) => said).join(" ");
 }
 
 /**
@@ -58,7 +76,9 @@ export function documentOf([head, tail], data) {
  * @param {string} script
  * @returns {import("./store.js").Kept}
  */
-export const savedOf = (name, page, script) => ({ name, page, cuts: [], script, saved: script, isOther: false });
+export const savedOf = (name, page, script) => (
+  { name, page, cuts: [], script, saved: script, isOther: false, drawing: "", painted: null }
+);
 
 export class Keep {
   /**
@@ -80,7 +100,7 @@ export class Keep {
 
   // Whether something would be lost.
   isUnsaved() {
-    return this.needs.sheet.script() !== this.saved || this.isOther();
+    return this.needs.sheet.script() !== this.saved || this.isOther() || isBegun(this.needs.underWay());
   }
 
   // Whether the stored page is another than the one of which the script was saved.
@@ -105,9 +125,9 @@ export class Keep {
    * @param {boolean} pageToo
    */
   store(pageToo) {
-    const { sheet, cuts } = this.needs;
+    const { sheet, cuts, underWay } = this.needs;
     const { name, saved } = this;
-    const kept = { name, page: sheet.page, cuts: cuts.stored(), script: sheet.script(), saved, isOther: this.isOther() };
+    const kept = { name, page: sheet.page, cuts: cuts.stored(), script: sheet.script(), saved, isOther: this.isOther(), ...underWay() };
     if (this.files.put(kept, pageToo)) return;
     if (this.stores) this.say(word("notKept"));
     this.stores = false;
@@ -122,8 +142,9 @@ export class Keep {
    * Takes a page that is new, or was opened, or comes from the storage.
    * @param {import("./store.js").Kept} kept
    */
-  take({ name, page, cuts, script, saved, isOther }) {
-    this.tell({ kind: "taken", page, script, cuts });
+  take(kept) {
+    const { name, page, saved, isOther } = kept;
+    this.tell({ kind: "taken", kept });
     this.name = name;
     this.saved = saved;
     this.savedPage = isOther ? null : page;
@@ -141,17 +162,19 @@ export class Keep {
     link.download = withEnding(this.name || word("fileName"), ending);
     link.click();
     setTimeout(() => URL.revokeObjectURL(link.href), 1000);
-    this.say(word("saved", { name: link.download }));
+    this.say(word(isBegun(this.needs.underWay()) ? "savedWithout" : "saved", { name: link.download }));
   }
 
   // The page as the program puts it for the stored page and the whole script.
   keepPage() {
     if (!this.needs.ready()) return;
+    this.needs.finish();
     this.download(".btx", this.needs.sheet.edited());
     this.settle();
   }
 
   keepScript() {
+    this.needs.finish();
     this.download(".txt", this.needs.sheet.script());
     this.settle();
   }
@@ -164,12 +187,14 @@ export class Keep {
   }
 
   keepPicture() {
+    this.needs.finish();
     this.needs.still().toBlob((blob) => blob && this.download(".png", blob));
   }
 
   // One file with the viewer and the page in it, as `btx html` writes it.
   keepHtml() {
     if (!this.needs.ready()) return;
+    this.needs.finish();
     const { asker, sheet } = this.needs;
     const page = sheet.edited();
     /** @type {(name: string, more?: import("./types.js").Things) => string} */
@@ -214,13 +239,16 @@ export class Keep {
    * @param {Iterable<File>} list
    */
   async open(list) {
-    const { script, page } = sortedFiles([...list]);
+    const { script, page, rest } = sortedFiles([...list]);
     const named = page || script;
+    const remarks = remarksOn(page ? page.name : null, rest.map(({ name }) => name));
+    if (!named && remarks) this.say(remarks, true);
     if (!named || !(await this.mayLeave())) return;
     try {
       const bytes = page ? new Uint8Array(await page.arrayBuffer()) : this.needs.sheet.page;
       const text = script ? (await script.text()).replace(/\r\n?/g, "\n") : "";
       this.take(savedOf(page ? page.name : this.name || named.name, bytes, text));
+      if (remarks) this.say(remarks);
     } catch (fault) {
       this.say(this.endOf(fault, named.name), true);
     }

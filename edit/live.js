@@ -1,5 +1,5 @@
 // The page under way: a decoder that was fed the stored page to its end, and on which the lines of the script are made one by one. What a line
-// changes, where it leads and how much can be taken back is told by the decoder.
+// changes, where it leads and how much can be undone is told by the decoder.
 import { CELLS, COLUMNS, Decoder, colourText, flashingText } from "./shared.js";
 import { AskFault, BadLine } from "./faults.js";
 import { STATUS } from "./statuses.js";
@@ -10,8 +10,39 @@ import { STATUS } from "./statuses.js";
 // Why a line is outside the grammar, by numbers from 1 on.
 export const REASONS = ["UnknownWord", "WrongCount", "BadNumber", "BadText", "BadHex", "BadBytes"];
 
+// The primary set's number among the sets of a state.
+const PRIMARY = 0;
+
 /** @param {{ row: number, column: number }} place */
 const cellOf = ({ row, column }) => (row - 1) * COLUMNS + column - 1;
+
+/** @param {WebAssembly.Instance} instance */
+function opened(instance) {
+  try {
+    return new Decoder(instance);
+  } catch (fault) {
+    throw new AskFault("edit", STATUS.NO_MEMORY);
+  }
+}
+
+/**
+ * How bytes of a page are taken at some places, each behind the one before.
+ * @param {WebAssembly.Instance} instance
+ * @param {Uint8Array} page
+ * @param {number[]} places
+ * @returns {import("./items.js").Taking[]}
+ */
+export function takingsOf(instance, page, places) {
+  const decoder = opened(instance);
+  const found = places.map((place, at) => {
+    decoder.skim(page.subarray(at ? places[at - 1] : 0, place));
+    const { g, left, single, accent } = decoder.state();
+    const waits = single > 0 || accent > 0;
+    return { isText: left === 0 && g[0] === PRIMARY && !waits, waits };
+  });
+  decoder.close();
+  return found;
+}
 
 export class Live {
   /**
@@ -27,11 +58,7 @@ export class Live {
      * @type {string[] | null}
      */
     this.colours = null;
-    try {
-      this.decoder = new Decoder(instance);
-    } catch (fault) {
-      throw new AskFault("edit", STATUS.NO_MEMORY);
-    }
+    this.decoder = opened(instance);
     this.decoder.skim(page);
     this.decoder.finish();
   }
@@ -79,21 +106,22 @@ export class Live {
     for (const line of lines) this.decoder.make(line);
   }
 
-  // How many edits can be taken back.
+  // How many edits can be undone.
   kept() {
     return this.decoder.kept();
   }
 
-  // How many that were taken back can be made again.
+  // How many that were undone can be redone.
   undone() {
     return this.decoder.undone();
   }
 
-  // Where the next sign would be written, the set and the table in force, and the area and the modes; an area of rows 0 is none.
+  // Where the next sign would be written, the set and the table in force, and format, area and modes; an area of rows 0 is none.
   state() {
     const state = this.decoder.state();
-    const { first, last, implicit, revision, protect } = state;
-    return { at: cellOf(state), set: state.c1 ? "parallel" : "serial", table: `table ${state.table}`, first, last, implicit, revision, protect };
+    const { rows, first, last, implicit, revision, protect } = state;
+    const [set, table] = [state.c1 ? "parallel" : "serial", `table ${state.table}`];
+    return { at: cellOf(state), set, table, rows, first, last, implicit, revision, protect };
   }
 
   /**

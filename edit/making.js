@@ -24,7 +24,7 @@ export class Making {
      */
     this.done = [];
     /**
-     * The numbers of the lines that undo or make again and had nothing to.
+     * The numbers of the lines that undo or redo and had nothing to.
      * @type {number[]}
      */
     this.nothings = [];
@@ -104,7 +104,7 @@ export class Making {
   }
 
   /**
-   * The places in the script of the edits that are kept, and of those that were taken back and can be made again, the next one last.
+   * The places in the script of the edits that are kept, and of those that were undone and can be redone, the next one last.
    * @returns {{ kept: number[], undone: number[] }}
    */
   edits() {

@@ -8,8 +8,13 @@ import { button, choice, inLine, make, part, rove, styleOf, swatch } from "./con
 /** @typedef {import("./types.js").Tell} Tell */
 
 /**
- * The script and the program.
- * @typedef {{ sheet: import("./sheet.js").Sheet, asker: import("./ask.js").Asker }} Needs
+ * The script, the program, and whether lines can be added.
+ * @typedef {{ sheet: import("./sheet.js").Sheet, asker: import("./ask.js").Asker, ready: () => boolean }} Needs
+ */
+
+/**
+ * A sign that was painted and isn't defined yet: its code and its form, and the pixels of the field.
+ * @typedef {{ code: number, size: string, planes: number, field: number[] }} Painted
  */
 
 const [FIRST, LAST] = [0x21, 0x7e];
@@ -52,6 +57,8 @@ export class PatternEditor {
     this.ink = 1;
     this.cursor = { line: 0, column: 0 };
     this.field = blankField();
+    // The pixels that were defined or taken last.
+    this.settled = String(this.field);
     this.paints = BLACK_AND_WHITE;
     this.grid = make("canvas", { id: "pixels", tabindex: 0, role: "application", name: "patternGrid", "aria-describedby": "pixel-words" });
     this.codes = make("select", { id: "pattern-code", name: "patternCode", onchange: () => this.take(Number(this.codes.value)) },
@@ -118,13 +125,13 @@ export class PatternEditor {
     this.planes = planes;
     this.ink = Math.min(this.ink, COUNTS[planes] - 1);
     this.setSize(size);
-    this.show();
+    this.changed();
   }
 
   /** @param {(pixel: number) => number} act */
   whole(act) {
     this.pixels = this.pixels.map(act);
-    this.show();
+    this.changed();
   }
 
   /**
@@ -133,14 +140,48 @@ export class PatternEditor {
    */
   take(code) {
     this.code = code;
-    const [, look] = this.ask([showLine(code)]);
-    if (look && look.pattern) {
-      const { width, height, planes, words } = look.pattern;
+    const pattern = this.defined();
+    if (pattern) {
+      const { width, height, planes, words } = pattern;
       this.planes = planes;
       this.field = blankField();
       this.setSize(`${width}x${height}`);
       this.pixels = [...pixelsOf(width, height, planes, words)];
       this.ink = Math.min(this.ink, COUNTS[planes] - 1);
+      this.settle();
+    }
+    this.changed();
+  }
+
+  // Shows what was painted or taken, and tells that what is under way is another.
+  changed() {
+    this.show();
+    this.tell({ kind: "drawn" });
+  }
+
+  // What is painted is defined, or taken, or given up.
+  settle() {
+    this.settled = String(this.field);
+  }
+
+  /**
+   * What was painted and isn't defined yet, or null.
+   * @returns {Painted | null}
+   */
+  underWay() {
+    const { code, size, planes, field } = this;
+    return String(field) === this.settled ? null : { code, size, planes, field };
+  }
+
+  /**
+   * Goes on with what was painted and stored; without any the pixels stay as those of no page.
+   * @param {Painted | null} painted
+   */
+  goOn(painted) {
+    this.settle();
+    if (painted) {
+      [this.code, this.planes, this.field] = [painted.code, painted.planes, painted.field];
+      this.setSize(painted.size);
     }
     this.show();
   }
@@ -154,18 +195,35 @@ export class PatternEditor {
     return asker.lastLooks(sheet.edited(), [WIPED, ...lines]);
   }
 
+  // The pattern that the code has on the page as it would be kept, or null.
+  defined() {
+    const [, look] = this.ask([showLine(this.code)]);
+    return look && look.pattern;
+  }
+
   // The line that defines the pattern.
   line() {
     return patternLine(this.code, this);
   }
 
   define() {
+    if (!this.needs.ready()) return;
+    this.settle();
     this.tell({ kind: "act", lines: [this.line()] });
     this.show();
   }
 
+  // Defines what was painted and isn't yet.
+  finish() {
+    if (this.underWay()) this.define();
+  }
+
+  // Writes the sign, which is defined before where it isn't yet.
   write() {
+    const isNew = !this.defined();
+    if (isNew) this.define();
     this.tell({ kind: "write", signs: [{ set: "D", code: this.code, accent: 0 }] });
+    if (isNew && !this.needs.sheet.fault) this.tell({ kind: "said", text: word("patternFirst", { code: hexOf(this.code) }) });
   }
 
   /**
@@ -248,7 +306,7 @@ export class PatternEditor {
   paint(line, column, ink) {
     this.cursor = { line, column };
     this.field[line * WIDEST + column] = ink;
-    this.show();
+    this.changed();
   }
 
   joinGrid() {

@@ -3,6 +3,7 @@
 import { word } from "./words.js";
 import { unknownIn } from "./lines.js";
 import { isEdit } from "./sheet.js";
+import { Steps, kindOf } from "./steps.js";
 import { part, say } from "./controls.js";
 
 /** @typedef {import("./sheet.js").Sheet} Sheet */
@@ -38,6 +39,12 @@ export function unknownOf({ line, name }, lines) {
 }
 
 /**
+ * The script of a text: its last line is ended.
+ * @param {string} text
+ */
+const scriptOf = (text) => (/[^\n]$/.test(text) ? `${text}\n` : text);
+
+/**
  * The line to which one edit forward or back leads: empty lines and comments are passed.
  * @param {number} from
  * @param {number} by
@@ -70,6 +77,10 @@ export class ScriptPane {
     /** @type {number | null} */
     this.pointed = null;
     this.lineHeight = 0;
+    // What was written in the field, and how the last of it was; a clock, where that isn't told yet.
+    this.steps = new Steps();
+    this.written = "";
+    this.waiting = 0;
     this.join();
   }
 
@@ -81,6 +92,41 @@ export class ScriptPane {
   // The same, of another script.
   forget() {
     this.step = this.pointed = null;
+    clearTimeout(this.waiting);
+    this.waiting = 0;
+  }
+
+  // Tells what was written in the field.
+  told() {
+    clearTimeout(this.waiting);
+    this.waiting = 0;
+    this.follow();
+    this.tell({ kind: "typed", text: this.field.value });
+    this.steps.note(this.field.value, this.written);
+  }
+
+  // Forgets what was written in the field before, where another script stands there.
+  follow() {
+    if (scriptOf(this.steps.text) !== this.sheet.script()) this.steps.follow(this.sheet.script());
+  }
+
+  /**
+   * Takes back what was written last in the field, or writes it again, where nothing else was done since. Answers whether there was any.
+   * @param {"undo" | "redo"} by
+   */
+  undoRedo(by) {
+    this.follow();
+    const place = this.steps.undoRedo(by);
+    if (place === null) return false;
+    this.field.value = this.steps.text;
+    this.field.setSelectionRange(place, place);
+    this.tell({ kind: "typed", text: this.steps.text });
+    return true;
+  }
+
+  // The same without a pause, where it waits.
+  settle() {
+    if (this.waiting) this.told();
   }
 
   lines() {
@@ -96,13 +142,21 @@ export class ScriptPane {
    * @param {boolean} [typed]
    */
   show(typed = false) {
-    const text = this.sheet.script();
-    if (!typed && this.field.value !== text) {
-      this.field.value = text;
+    if (!typed && !this.waiting && !this.has(this.sheet.script())) {
+      this.field.value = this.sheet.script();
       this.field.scrollTop = this.field.scrollHeight;
     }
     say("gutter", gutterOf(this.sheet));
     this.speak();
+  }
+
+  /**
+   * Whether the field has a script: while it has the focus, also where the last line isn't ended yet.
+   * @param {string} script
+   */
+  has(script) {
+    const { value } = this.field;
+    return (document.activeElement === this.field ? scriptOf(value) : value) === script;
   }
 
   height() {
@@ -197,14 +251,12 @@ export class ScriptPane {
     const { field, sheet } = this;
     /** @type {(id: string, kind: string, act: () => void) => void} */
     const on = (id, kind, act) => part(id).addEventListener(kind, act);
-    const typed = () => this.tell({ kind: "typed", text: field.value });
-    /** @type {ReturnType<typeof setTimeout> | undefined} */
-    let waiting;
     // Where making all anew may take long the text is seen first, and made after a pause.
-    field.addEventListener("input", () => {
-      clearTimeout(waiting);
-      if (sheet.isLong()) waiting = setTimeout(typed, PAUSE);
-      else typed();
+    field.addEventListener("input", (event) => {
+      this.written = kindOf(event);
+      clearTimeout(this.waiting);
+      if (sheet.isLong()) this.waiting = window.setTimeout(() => this.told(), PAUSE);
+      else this.told();
     });
     field.addEventListener("scroll", () => this.bands());
     field.addEventListener("mousemove", (event) => {
@@ -215,7 +267,10 @@ export class ScriptPane {
     document.addEventListener("selectionchange", () => {
       if (document.activeElement === field) this.point(this.lineOfCursor());
     });
-    field.addEventListener("blur", () => this.point(null));
+    field.addEventListener("blur", () => {
+      this.settle();
+      this.point(null);
+    });
     on("first", "click", () => this.go(0));
     on("back", "click", () => this.turn(-1));
     on("forward", "click", () => this.turn(1));

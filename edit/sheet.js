@@ -13,6 +13,9 @@ import { STATUS } from "./statuses.js";
 
 // Control defaults with the parallel set.
 const START = "raw 1F2F44";
+// The lines of an action that may stand before the one that says where it begins.
+const PLACELESS = [START, "parallel", "serial"];
+const AT = /^at (\d+) (\d+)$/;
 // The bytes of the longest script.
 const LONGEST = 2 ** 20;
 // Page and script of so many signs are made anew within the time of a frame.
@@ -51,7 +54,7 @@ export class Sheet {
     // The page under way, with the lines up to the first bad one, and how these made the screen.
     this.live = asker.live(this.page, this.known);
     this.making = new Making(this.first);
-    // Whether what the page under way could make again isn't what the script could, and by how many edits it can take back less.
+    // Whether what the page under way could redo isn't what the script could, and by how many edits it can undo less.
     this.isAside = false;
     this.less = 0;
     /** @type {BadLine | null} */
@@ -138,7 +141,7 @@ export class Sheet {
   }
 
   /**
-   * Takes back what the last line did: an edit that was made again too by an undo, and an undo by a redo. Answers whether that can be.
+   * Takes back what the last line did: an edit that was redone too by an undo, and an undo by a redo. Answers whether that can be.
    * @param {Done | null} done
    */
   takeBack(done) {
@@ -175,6 +178,11 @@ export class Sheet {
   // The cell where the program would write next.
   get at() {
     return this.live.state().at;
+  }
+
+  // How many rows the format has.
+  get rows() {
+    return this.live.state().rows;
   }
 
   /**
@@ -228,17 +236,35 @@ export class Sheet {
   }
 
   /**
+   * The places in the script of the edits of the last action, the last one first: of those that are kept, or of those that were undone.
+   * @param {"undo" | "redo"} word
+   */
+  lastOf(word) {
+    const { kept, undone } = this.making.edits();
+    const stack = (word === "undo" ? kept : undone).reverse();
+    const [first, end] = stack.length ? this.actionOf(stack[0]) : [0, 0];
+    const other = stack.findIndex((index) => index < first || index >= end);
+    return other < 0 ? stack : stack.slice(0, other);
+  }
+
+  /**
+   * Where the action began that would be undone next, by its first line, that of a set left out; null where that says no place.
+   * @returns {[number, number] | null}
+   */
+  beginning() {
+    const edits = this.lastOf("undo").map((index) => inGrammar(this.lines[index])).filter((line) => !PLACELESS.includes(line));
+    const [, row, column] = AT.exec(edits.pop() || "") || [];
+    return row ? [Number(row), Number(column)] : null;
+  }
+
+  /**
    * Takes the last action back, or makes the one that was undone last again: by a line for each of its edits. Answers whether there
    * was one that the program keeps.
    * @param {"undo" | "redo"} word
    */
-  turn(word) {
-    const { kept, undone } = this.making.edits();
-    const stack = (word === "undo" ? kept : undone).reverse();
-    if (!stack.length) return false;
-    const [first, end] = this.actionOf(stack[0]);
-    const other = stack.findIndex((index) => index < first || index >= end);
-    const count = other < 0 ? stack.length : other;
+  undoRedo(word) {
+    const count = this.lastOf(word).length;
+    if (!count) return false;
     if (word === "undo" ? this.less && this.live.kept() < count : this.isAside) this.makeAnew();
     const most = Math.min(count, word === "undo" ? this.live.kept() : this.live.undone());
     const paragraph = this.lines[this.lines.length - 1] !== "" ? [""] : [];

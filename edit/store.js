@@ -8,10 +8,21 @@ const pageName = (editor) => `tamligub.editor.${editor}.page`;
 const scriptName = (editor) => `tamligub.editor.${editor}.script`;
 
 /**
- * What an editor has: the name of a page with its bytes and the cuts that were made in it; a script, the script that was saved last, and whether
- * that was saved of another stored page.
- * @typedef {{ name: string, page: Uint8Array, cuts: import("./cuts.js").Stored[], script: string, saved: string, isOther: boolean }} Kept
+ * What isn't in the script yet: the lines of a drawing, and a sign that was painted.
+ * @typedef {{ drawing: string, painted: import("./pattern.js").Painted | null }} UnderWay
  */
+
+/**
+ * What an editor has: the name of a page with its bytes and the cuts that were made in it; a script, the script that was saved last, and whether
+ * that was saved of another stored page; and what isn't in the script yet.
+ * @typedef {{ name: string, page: Uint8Array, cuts: import("./cuts.js").Stored[], script: string, saved: string, isOther: boolean } & UnderWay} Kept
+ */
+
+/**
+ * Whether something is drawn or painted that isn't in the script yet.
+ * @param {UnderWay} underWay
+ */
+export const isBegun = ({ drawing, painted }) => drawing !== "" || painted !== null;
 
 /**
  * Bytes as letters of base 64.
@@ -47,13 +58,13 @@ export class Store {
    * @param {Kept} kept
    * @param {boolean} pageToo
    */
-  put({ name, page, cuts, script, saved, isOther }, pageToo) {
+  put({ name, page, cuts, ...rest }, pageToo) {
     try {
       if (pageToo) {
         const before = cuts.map((cut) => ({ ...cut, page: toLetters(cut.page) }));
         this.storage().setItem(pageName(this.id), JSON.stringify({ name, page: toLetters(page), cuts: before }));
       }
-      this.storage().setItem(scriptName(this.id), JSON.stringify({ script, saved, isOther, time: Date.now() }));
+      this.storage().setItem(scriptName(this.id), JSON.stringify({ ...rest, time: Date.now() }));
       return true;
     } catch (fault) {
       return false;
@@ -68,10 +79,10 @@ export class Store {
   of(id) {
     try {
       const { name, page, cuts = [] } = JSON.parse(this.storage().getItem(pageName(id)) || "");
-      const { script, saved, isOther = false, time } = JSON.parse(this.storage().getItem(scriptName(id)) || "");
-      if (script === saved && !isOther) return null;
+      const { isOther = false, drawing = "", painted = null, ...rest } = JSON.parse(this.storage().getItem(scriptName(id)) || "");
+      if (rest.script === rest.saved && !isOther && !isBegun({ drawing, painted })) return null;
       const before = cuts.map((/** @type {any} */ cut) => ({ ...cut, page: fromLetters(cut.page) }));
-      return { id, name, page: fromLetters(page), cuts: before, script, saved, isOther, time };
+      return { id, name, page: fromLetters(page), cuts: before, isOther, drawing, painted, ...rest };
     } catch (fault) {
       return null;
     }

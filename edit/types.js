@@ -29,12 +29,12 @@
  * script was changed at the caret (`changed`), by hand (`typed`), or is to be tidied (`tidy`); that the caret moved (`moved`), and that
  * where it is should be told (`arrived`); that another pen was chosen (`chosen`); that the screen shows something else (`seen`), or what it was after an
  * item (`stepped`), or other
- * cells are to be outlined (`pointed`); that the page is to be cut after some items (`cut`); that a page was taken (`taken`), or its name or
- * what is kept of it is another (`named`); and words to be shown (`said`).
+ * cells are to be outlined (`pointed`); that what is drawn or painted is another (`drawn`); that the page is to be cut after some items (`cut`);
+ * that a page was taken (`taken`), or its name or what is kept of it is another (`named`); and words to be shown (`said`).
  * @typedef {{ kind: "act" | "mark", lines: string[] } | { kind: "write", signs: Sign[] } | { kind: "typed", text: string }
- *   | { kind: "said", text: string, isFault?: boolean } | { kind: "taken", page: Uint8Array, script: string, cuts: import("./cuts.js").Stored[] }
+ *   | { kind: "said", text: string, isFault?: boolean } | { kind: "taken", kept: import("./store.js").Kept }
  *   | { kind: "cut", items: import("./items.js").PageItems, count: number, makesLines: boolean }
- *   | { kind: "changed" | "tidy" | "moved" | "arrived" | "chosen" | "seen" | "stepped" | "pointed" | "named" }} Happening
+ *   | { kind: "changed" | "tidy" | "moved" | "arrived" | "chosen" | "seen" | "stepped" | "pointed" | "drawn" | "named" }} Happening
  */
 
 /** @typedef {(happening: Happening) => void} Tell */

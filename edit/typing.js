@@ -3,11 +3,12 @@ import { COLUMNS, ROWS } from "./shared.js";
 import { word } from "./words.js";
 import { knownSigns, linesOfSigns, signOf, signsIn } from "./lines.js";
 
+/** @typedef {import("./types.js").Look} Look */
 /** @typedef {import("./types.js").Sign} Sign */
 /** @typedef {import("./types.js").Tell} Tell */
 
 /**
- * The script, the pen, whether lines can be added, and a key that something else takes before.
+ * The script, the pen, whether lines can be added at the caret, and a key that something else takes before.
  * @typedef {{
  *   sheet: import("./sheet.js").Sheet, pen: { key: () => string, lines: () => { set: string[], lines: string[] } },
  *   ready: () => boolean, drawingKey: (event: KeyboardEvent) => boolean,
@@ -21,8 +22,15 @@ import { knownSigns, linesOfSigns, signOf, signsIn } from "./lines.js";
  */
 
 const SPACE = "text  ";
+const BLANK = { set: "P", code: 0x20, accent: 0 };
 /** @param {Sign} sign */
 const isLetter = ({ set }) => set === "P" || set === "S";
+/**
+ * Whether a look is that of a sign, as far as its code tells.
+ * @param {Look} look
+ * @param {Sign} sign
+ */
+const shows = (look, { set, code }) => (look.kind === "sign" ? look.code === code : look.kind === "pattern" ? set === "D" : code === BLANK.code);
 
 export class Typing {
   /**
@@ -48,16 +56,21 @@ export class Typing {
   }
 
   /**
-   * Puts the caret at a cell, and ends the stretch of typing.
+   * Puts the caret at a cell of the format, and ends the stretch of typing.
    * @param {number} row
    * @param {number} column
    */
   place(row, column) {
     this.composing = 0;
-    this.row = Math.min(ROWS, Math.max(1, row));
+    this.row = Math.min(this.needs.sheet.rows, Math.max(1, row));
     this.column = Math.min(COLUMNS, Math.max(1, column));
     this.stretch = null;
     this.said = null;
+  }
+
+  // Puts the caret into the format, where that has become another.
+  bound() {
+    if (this.row > this.needs.sheet.rows) this.place(this.row, this.column);
   }
 
   // Ends the stretch of typing.
@@ -123,12 +136,34 @@ export class Typing {
    */
   write(signs) {
     if (!this.needs.ready()) return;
-    const { sheet } = this.needs;
-    if (this.stretch && this.stretch.signs.every((sign) => isLetter(sign) === isLetter(signs[0]))) {
+    this.watched(signs[0], () => {
+      if (!this.stretch || this.stretch.signs.some((sign) => isLetter(sign) !== isLetter(signs[0]))) return this.begin(signs);
       this.stretch.signs.push(...signs);
-      this.restate();
-      return;
-    }
+      return this.restate();
+    });
+  }
+
+  /**
+   * Writes signs, of which the first belongs at the caret. Says so where no cell changes and this one shows another: it is protected, or a
+   * larger sign covers it. What is being composed stands before the caret already.
+   * @param {Sign} sign
+   * @param {() => void} write
+   */
+  watched(sign, write) {
+    const { making, known } = this.needs.sheet;
+    const [cell, before] = [this.cell(), making.end().slice()];
+    write();
+    const after = making.end();
+    const isSame = !this.composing && before.every((number, at) => number === after[at]);
+    if (isSame && !shows(known.list[after[cell]], sign)) this.tell({ kind: "said", text: word("stays") });
+  }
+
+  /**
+   * Begins a stretch with signs.
+   * @param {Sign[]} signs
+   */
+  begin(signs) {
+    const { sheet } = this.needs;
     const [lead, before] = [this.lead(), sheet.lines.length];
     /** @type {Stretch["begun"]} */
     const begun = [this.row, this.column, this.said];
@@ -168,9 +203,10 @@ export class Typing {
 
   // Takes back the sign that was typed last; where none was, a space is written one place before.
   backspace() {
+    if (!this.needs.ready()) return;
     if (this.stretch) {
       this.stretch.signs.pop();
-      if (this.needs.ready()) this.restate();
+      this.restate();
       return;
     }
     if (this.row === 1 && this.column === 1) return;
@@ -186,8 +222,10 @@ export class Typing {
   wipe(row, column) {
     if (!this.needs.ready()) return;
     this.place(row, column);
-    this.needs.sheet.add([this.at(), SPACE]);
-    this.tell({ kind: "changed" });
+    this.watched(BLANK, () => {
+      this.needs.sheet.add([this.at(), SPACE]);
+      this.tell({ kind: "changed" });
+    });
   }
 
   // To the first column of the next row in which no sign from above reaches.

@@ -265,7 +265,7 @@ export function readChanges(text) {
 
 /**
  * The text of `trace`, whose moments are lines of a script: with the refusals of the page, and with the lines at which nothing could
- * be taken back or made again. Looks are numbered among those that are known already.
+ * be undone or redone. Looks are numbered among those that are known already.
  * @param {string} text
  * @param {Looks} known
  * @returns {Trace}

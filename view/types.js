@@ -31,7 +31,7 @@
  */
 
 /**
- * The text of `trace`: with the lines at which nothing could be taken back or made again.
+ * The text of `trace`: with the lines at which nothing could be undone or redone.
  * @typedef {Course & { refusals: Refusal[], nothings: number[] }} Trace
  */
 

@@ -147,6 +147,24 @@ def typing_is_lines(hand):
     assert hand.lines()[-3:] == ["redo"] * 3 and hand.is_true() == after, hand.script()
 
 
+def an_undo_leads_to_where_the_action_began(hand):
+    for stored in (b"", b"\x1f\x45\x41Seite"):
+        hand.fresh(hand.written("stored.btx", stored))
+        hand.cell(3, 3)
+        hand.type("Hallo")
+        hand.cell(10, 10)
+        hand.type("Wlet")
+        hand.key("z", held=CONTROL)
+        assert hand.caret() == (10, 10), hand.caret()
+        hand.type("Welt")
+        assert hand.lines()[-2:] == ["at 10 10", "text Welt"], hand.script()
+        hand.key("z", 2, held=CONTROL)
+        assert hand.caret() == (3, 3), hand.caret()
+        hand.key("y", held=CONTROL)
+        assert hand.caret() == (3, 8), hand.caret()
+        hand.is_true(stored)
+
+
 def a_page_keeps_what_is_not_touched(hand):
     """What the editor adds before a sign on a stored page, to know where it stands, changes nothing else: nor does undo."""
     # One with an area that scrolls at its edges, beside those of the folder.
@@ -189,6 +207,89 @@ def scripts_are_typed(hand):
     assert hand.kept("#keep-page")[1] == data
 
 
+# The text of the script's field, and where its cursor is.
+WRITTEN = "((field) => [field.value, field.selectionEnd])(Tamligub.part('script'))"
+
+
+def a_script_is_typed_key_by_key(hand):
+    """At the end of the script too, where the last line has no line feed yet: the cursor stays where it is, and what is typed is the script."""
+    hand.fresh()
+    hand.click("#script")
+    for key in "at 3 5":
+        hand.key(key)
+        hand.settle()
+    hand.key("Enter")
+    for key in "text ab":
+        hand.key(key)
+    hand.settle()
+    assert hand.tab.value(WRITTEN) == ["at 3 5\ntext ab", 14], hand.tab.value(WRITTEN)
+    hand.key("Backspace")
+    hand.settle()
+    assert hand.tab.value(WRITTEN) == ["at 3 5\ntext a", 13] and hand.script() == "at 3 5\ntext a\n", hand.tab.value(WRITTEN)
+    # Behind lines that were made on the screen.
+    hand.cell(9, 9)
+    hand.type("Hallo")
+    hand.tab.value("Tamligub.part('script').focus(), Tamligub.part('script').setSelectionRange(1000, 1000)")
+    for key in "row 4":
+        hand.key(key)
+        hand.settle()
+    assert hand.lines() == ["at 3 5", "text a", "at 9 9", "text Hallo", "row 4"], hand.script()
+    assert hand.tab.value(WRITTEN) == [hand.script()[:-1], len(hand.script()) - 1], hand.tab.value(WRITTEN)
+    hand.is_true()
+    # On a long page what is typed waits for a pause, and stays though all is shown anew before.
+    hand.fresh(hand.written("long.btx", b" " * 20001))
+    hand.tab.value("Tamligub.part('script').focus()")
+    hand.tab.value("document.execCommand('insertText', false, 'at 3 5'), Tamligub.editor.painted()")
+    assert hand.tab.value(WRITTEN)[0] == "at 3 5", hand.tab.value(WRITTEN)
+    hand.key("s", held=CONTROL)
+    assert hand.lines() == ["at 3 5"] and not hand.text("name").endswith("●"), hand.script()
+
+
+def what_was_written_in_the_script_is_undone_there(hand):
+    """Before what was done on the screen, step by step, and the cursor stays in the script; so does the undo of the browser's menu."""
+    hand.fresh()
+    hand.cell(3, 3)
+    hand.type("Hallo")
+    made = hand.script()
+    hand.tab.value("Tamligub.part('script').focus(), Tamligub.part('script').setSelectionRange(1000, 1000)")
+    for key in ("row 4", ("Enter",), "at 5 5", ("Backspace",), ("Backspace",)):
+        for one in key:
+            hand.key(one)
+    hand.settle()
+    assert hand.tab.value(WRITTEN) == [f"{made}row 4\nat 5", len(made) + 10], hand.tab.value(WRITTEN)
+    texts = [f"{made}row 4\nat 5 5", f"{made}row 4\n", f"{made}row 4", made]
+    for number, text in enumerate(texts):
+        if number:
+            hand.key("z", held=CONTROL)
+        else:
+            hand.tab.call("Input.dispatchKeyEvent", type="keyDown", key="F13", commands=["undo"])
+        hand.settle()
+        assert hand.tab.value(WRITTEN) == [text, len(text)], hand.tab.value(WRITTEN)
+    for text in texts[2::-1]:
+        hand.key("y", held=CONTROL)
+        assert hand.tab.value(WRITTEN) == [text, len(text)], hand.tab.value(WRITTEN)
+    hand.key("z", 3, held=CONTROL)
+    assert hand.tab.value(WRITTEN)[0] == made, hand.tab.value(WRITTEN)
+    # Then what was done on the screen, by lines as there.
+    hand.key("z", held=CONTROL)
+    assert hand.shown_script() == f"{made}\nundo\nundo\n" and hand.looks() == [BLANK] * 960, hand.shown_script()
+    hand.key("y", held=CONTROL)
+    assert hand.shown_script() == f"{made}\nundo\nundo\n\nredo\nredo\n", hand.shown_script()
+    assert hand.tab.value("document.activeElement.id") == "script"
+    # A script that was thrown away comes back, and one that is wrong is mended.
+    whole = hand.script()
+    hand.write_script("no such line")
+    hand.key("z", held=CONTROL)
+    assert hand.script() == whole and hand.text("script-fault") == "", hand.script()
+    hand.is_true()
+    # On another page there is nothing of it.
+    hand.leave()
+    hand.open(page("title"))
+    hand.tab.value("Tamligub.part('script').focus()")
+    hand.key("z", held=CONTROL)
+    assert hand.script() == "" and hand.text("note"), hand.script()
+
+
 def signs_are_composed(hand):
     """By dead keys and on a screen's keyboard: what is composed is seen from the first key on, and replaced until it is done."""
     hand.fresh()
@@ -206,6 +307,21 @@ def signs_are_composed(hand):
     hand.tab.call("Input.imeSetComposition", text="", selectionStart=0, selectionEnd=0)
     assert "# aWorteé" in hand.script().split("\n"), hand.script()
     hand.is_true()
+
+
+def what_is_protected_stays_and_that_is_told(hand):
+    hand.fresh()
+    hand.write_script("protect\nat 3 3\ntext fest\nunprotect\n")
+    hand.cell(3, 5)
+    hand.type("x")
+    assert "geschützt" in hand.text("note") and hand.looks()[2 * 40 + 4].startswith("P73"), hand.text("note")
+    hand.is_true()
+    hand.cell(3, 7)
+    hand.type("y")
+    assert hand.text("note") == "", hand.text("note")
+    hand.cell(3, 5)
+    hand.key("Delete")
+    assert "geschützt" in hand.text("note"), hand.text("note")
 
 
 def each_attribute_is_a_line(hand):
@@ -327,6 +443,50 @@ def rows_screen_area_format_and_colours_are_lines(hand):
     assert hand.lines()[-1] == "clear", hand.lines()
 
 
+# How much of the screen's height is shaded from above on, or null.
+SHADED = """((one, screen) => one.hidden ? null : (one.getBoundingClientRect().top - screen.top) / screen.height)(
+  Tamligub.part("beyond"), Tamligub.part("page").getBoundingClientRect())"""
+
+
+def the_format_bounds_caret_and_drawing(hand):
+    """Of 20 rows the others are shaded: neither mouse nor keys lead there, and a box ends above them."""
+    hand.fresh()
+    still(hand)
+    assert hand.tab.value(SHADED) is None, "rows of the format are shaded"
+    hand.cell(23, 5)
+    assert hand.caret() == (23, 5), hand.caret()
+    hand.tab_of("sheet")
+    hand.choose('#sheet select[data-name="formatPart"]', "20", 0)
+    hand.click('[data-apply="format"]')
+    assert hand.caret()[0] <= 20 and abs(hand.tab.value(SHADED) - 20 / 24) < 0.01, (hand.caret(), hand.tab.value(SHADED))
+    hand.cell(22, 5)
+    assert hand.caret() == (20, 5), hand.caret()
+    hand.hover(*hand.place(4, 21, 40, 24))
+    assert hand.text("where") == "Zeile 22, Spalte 5: unter dem Format von 20 Zeilen", hand.text("where")
+    hand.hover(5, 5)
+    hand.key("PageDown")
+    hand.key("ArrowDown")
+    assert hand.caret() == (20, 5), hand.caret()
+    hand.type("unten")
+    assert hand.lines()[-2:] == ["at 20 5", "text unten"], hand.lines()
+    hand.is_true()
+    hand.tab_of("draw")
+    hand.click('[data-tool="box"]')
+    hand.drag((4, 50), (40, 71))
+    assert hand.tab.value("Tamligub.part('drawing').value") == "box 4 50 40 59"
+    hand.key("ArrowDown", 3)
+    assert hand.text("draw-where") == "Punkt 40, 59", hand.text("draw-where")
+    hand.click("#draw button.main")
+    hand.is_true()
+    # With 24 rows by hand, and with 20 once more while the caret is below these.
+    hand.tab_of("pen")
+    hand.write_script("at 2 2\n")
+    hand.cell(24, 3)
+    assert hand.caret() == (24, 3) and hand.tab.value(SHADED) is None, hand.caret()
+    hand.write_script("raw 1F2D4270\n")
+    assert hand.caret() == (20, 3) and hand.tab.value(SHADED) is not None, hand.caret()
+
+
 def patterns_have_inks(hand):
     """A sign of each form and depth, painted with its inks, defined and written; taken again it has the same pixels."""
     hand.fresh()
@@ -357,6 +517,29 @@ def patterns_have_inks(hand):
     hand.click('#colours [data-word="dclutSet"]')
     assert hand.lines()[-1] == "raw 1F2620221F263030494A4B4C", hand.lines()[-1]
     hand.is_true()
+
+
+def a_sign_that_is_written_is_defined_before(hand):
+    hand.fresh()
+    still(hand)
+    hand.cell(4, 4)
+    hand.tab_of("pattern")
+    hand.drag((0, 0), (11, 9), 12, 10, "pixels", 12)
+    hand.click('#pattern [data-word="patternWrite"]')
+    assert hand.looks()[3 * 40 + 3].startswith("%12x10x1/"), hand.looks()[3 * 40 + 3]
+    assert "2/1" in hand.text("note"), hand.text("note")
+    lines = hand.lines()
+    assert len(lines) == 3 and lines[0].startswith("raw 1F23"), lines
+    hand.is_true()
+    # Once it is defined it is written alone.
+    hand.click('#pattern [data-word="patternWrite"]')
+    assert len(hand.lines()) == 3 and hand.text("note") == "", (hand.lines(), hand.text("note"))
+    assert hand.looks()[3 * 40 + 4].startswith("%12x10x1/"), hand.looks()[3 * 40 + 4]
+    hand.is_true()
+
+
+# The lines of the drawing.
+DRAWN = "Tamligub.part('drawing').value"
 
 
 def drawings_are_seen_before_they_are_kept(hand):
@@ -393,6 +576,104 @@ def drawings_are_seen_before_they_are_kept(hand):
     hand.key("Enter")
     hand.is_true()
     assert hand.lines()[-1].startswith("raw 1F2F44"), hand.lines()[-1]
+
+
+def a_drawing_is_undone_figure_by_figure(hand):
+    """And drawn again: by the keys, by the buttons, and among the lines. Once nothing is drawn actions are undone."""
+    hand.fresh()
+    still(hand)
+    hand.cell(4, 4)
+    hand.type("unter der Zeichnung")
+    script = hand.script()
+    hand.tab_of("draw")
+    for tool, start, end in (("box", (4, 3), (40, 30)), ("point", (50, 50), (60, 60)), ("line", (0, 71), (79, 0))):
+        hand.click(f'[data-tool="{tool}"]')
+        hand.drag(start, end)
+    whole = hand.tab.value(DRAWN).split("\n")
+    assert len(whole) > 5, whole
+    hand.key("z", held=CONTROL)
+    assert hand.tab.value(DRAWN).split("\n") == whole[:-1], hand.tab.value(DRAWN)
+    # A line of points by hand is one figure.
+    hand.click("#undo")
+    assert hand.tab.value(DRAWN) == whole[0] and hand.script() == script, hand.tab.value(DRAWN)
+    hand.key("y", held=CONTROL)
+    hand.click("#redo")
+    assert hand.tab.value(DRAWN).split("\n") == whole, hand.tab.value(DRAWN)
+    hand.tab.value("Tamligub.part('drawing').focus(), Tamligub.part('drawing').setSelectionRange(1000, 1000)")
+    for line in ("plot 7 7", "plot 70 7"):
+        hand.key("Enter")
+        for key in line:
+            hand.key(key)
+    shown = hand.looks()
+    hand.key("z", held=CONTROL)
+    assert hand.tab.value(DRAWN).split("\n") == [*whole, "plot 7 7"] and hand.looks() != shown, hand.tab.value(DRAWN)
+    hand.key("z", held=CONTROL)
+    assert hand.tab.value(DRAWN).split("\n") == whole, hand.tab.value(DRAWN)
+    hand.key("Escape", 2)
+    assert hand.tab.value(DRAWN) == "", hand.tab.value(DRAWN)
+    hand.key("z", held=CONTROL)
+    assert hand.tab.value(DRAWN).split("\n") == whole, "what was given up isn't taken back"
+    # One that was stored is undone line by line.
+    hand.settle()
+    hand.crash()
+    still(hand)
+    hand.key("z", held=CONTROL)
+    assert hand.tab.value(DRAWN).split("\n") == whole[:-1], hand.tab.value(DRAWN)
+    hand.key("z", len(whole) - 1, held=CONTROL)
+    assert hand.tab.value(DRAWN) == "" and hand.script() == script, hand.script()
+    hand.key("z", held=CONTROL)
+    assert hand.lines()[-2:] == ["undo", "undo"] and hand.looks() == [BLANK] * 960, hand.script()
+    # The figure that is begun is given up before.
+    hand.click('[data-tool="line"]')
+    hand.key(" ")
+    hand.key("ArrowRight", 5)
+    hand.key("z", held=CONTROL)
+    hand.key(" ")
+    assert hand.tab.value(DRAWN) == "" and hand.lines()[-2:] == ["undo", "undo"], hand.script()
+
+
+def while_drawing_nothing_is_written(hand):
+    """Nor does another key do anything at the caret, which isn't seen."""
+    hand.fresh()
+    still(hand)
+    hand.cell(4, 4)
+    hand.type("abc")
+    script = hand.script()
+    hand.tab_of("draw")
+    hand.tab.value("Tamligub.part('typing').focus()")
+    for act in (lambda: hand.type("x"), lambda: hand.key("Backspace"), lambda: hand.key("Delete")):
+        hand.tab.value("Tamligub.editor.tell('')")
+        act()
+        assert hand.script() == script and "Zeichnen" in hand.text("note"), hand.script()
+    hand.tab.call("Input.imeSetComposition", text="´", selectionStart=1, selectionEnd=1)
+    hand.tab.call("Input.insertText", text="é")
+    for key in ("Home", "PageUp"):
+        hand.key(key)
+    hand.key(" ")
+    hand.key("End")
+    hand.key("PageDown")
+    hand.key(" ")
+    assert hand.tab.value(DRAWN).split("\n")[0] == "plot 0 0" and "79 71" in hand.tab.value(DRAWN), hand.tab.value(DRAWN)
+    hand.key("Escape")
+    assert hand.script() == script and hand.caret() == (4, 7), hand.script()
+    hand.tab_of("pen")
+    hand.type("d")
+    assert hand.lines()[-1] == "text d" and hand.is_true(), hand.script()
+
+
+def another_page_has_no_drawing(hand):
+    """What was drawn on the page before is gone with it: its lines, also where the cursor is among them, and what is seen of it."""
+    hand.fresh()
+    still(hand)
+    hand.tab_of("draw")
+    hand.click('[data-tool="box"]')
+    hand.drag((4, 3), (40, 30))
+    hand.click("#drawing")
+    hand.leave()
+    hand.open(page("title"))
+    assert hand.tab.value("Tamligub.part('drawing').value") == "", "the lines are there"
+    assert hand.tab.value("document.querySelector('#draw button.main').disabled"), "there is a drawing to keep"
+    assert hand.looks() == hand.looks_of(page("title"))
 
 
 # A module that has no word `plot`: it answers with the status of a word that isn't known.
@@ -599,6 +880,11 @@ def a_crash_loses_nothing(hand):
     assert hand.lines()[-1] == "text im zweiten", hand.script()
 
 
+# Whether the page may be left without a question.
+IS_LEFT = """(() => { const event = new Event('beforeunload', { cancelable: true });
+  window.dispatchEvent(event); return !event.defaultPrevented; })()"""
+
+
 def an_unsaved_page_is_asked_about(hand):
     hand.fresh(page("title"))
     hand.click("#new")
@@ -611,11 +897,9 @@ def an_unsaved_page_is_asked_about(hand):
     hand.tab.until("Tamligub.part('unsaved').open")
     hand.click("#unsaved-stay")
     assert hand.tab.value("Tamligub.editor.sheet.page.length") > 0 and hand.lines()[-1] == "text x"
-    left = """(() => { const event = new Event('beforeunload', { cancelable: true });
-      window.dispatchEvent(event); return event.defaultPrevented; })()"""
-    assert hand.tab.value(left), "an unsaved page is left without a word"
+    assert not hand.tab.value(IS_LEFT), "an unsaved page is left without a word"
     hand.kept("#keep-page")
-    assert not hand.tab.value(left) and not hand.text("name").endswith("●")
+    assert hand.tab.value(IS_LEFT) and not hand.text("name").endswith("●")
     hand.cell(24, 1)
     hand.type("y")
     hand.click("#new")
@@ -623,6 +907,63 @@ def an_unsaved_page_is_asked_about(hand):
     hand.click("#unsaved-leave")
     hand.tab.until("Tamligub.editor.sheet.page.length === 0")
     assert hand.script() == ""
+
+
+PIXELS = "Tamligub.editor.pattern.pixels.join('')"
+
+
+def a_drawing_is_asked_about_and_outlasts_a_crash(hand):
+    """A drawing that isn't kept yet counts as unsaved; saving the page keeps it first, or says that it isn't in the page."""
+    hand.fresh()
+    still(hand)
+    hand.tab_of("draw")
+    hand.click('[data-tool="box"]')
+    hand.drag((4, 3), (40, 30))
+    assert hand.text("name").endswith("●") and not hand.tab.value(IS_LEFT), "a drawing is left without a word"
+    hand.click("#new")
+    hand.tab.until("Tamligub.part('unsaved').open")
+    hand.click("#unsaved-stay")
+    hand.settle()
+    lines, shown = hand.tab.value("Tamligub.part('drawing').value"), hand.looks()
+    hand.crash()
+    still(hand)
+    assert lines and hand.tab.value("Tamligub.part('drawing').value") == lines and hand.looks() == shown, "the drawing is lost by a crash"
+    assert not hand.tab.value("Tamligub.part('draw').hidden"), "it isn't seen that something is drawn"
+    hand.choose("#language", "de")
+    data = hand.kept("#keep-page")[1]
+    assert data == hand.edited() and hand.looks_of(hand.written("drawn.btx", data)) == shown, "the drawing isn't in the page"
+    assert not hand.text("name").endswith("●") and hand.text("note") == "seite.btx ist gesichert.", hand.text("note")
+    # Lines of which one is wrong stay, and are told.
+    hand.fill("#drawing", "plot 1 1\nbox 1 1 90 1\n")
+    assert hand.kept("#keep-page")[1] == data and "aber ohne" in hand.text("note"), hand.text("note")
+    hand.click("#draw button.main")
+    assert hand.text("name").endswith("●") and hand.tab.value("Tamligub.part('drawing').value").startswith("plot 1 1"), hand.text("name")
+    for selector in ("#keep-script", "#keep-picture", "#keep-html"):
+        hand.fill("#drawing", f"plot 9 {selector.count('p')}\n")
+        hand.kept(selector)
+        assert hand.lines()[-1].startswith("raw 1F2F44") and hand.tab.value("Tamligub.part('drawing').value") == "", f"{selector} keeps no drawing"
+    hand.fill("#drawing", "plot 3 3\n")
+    hand.click('#draw [data-word="drawDrop"]')
+    hand.kept("#keep-page")
+    assert hand.tab.value(IS_LEFT), "what was thrown away is asked about"
+
+
+def a_painted_sign_is_asked_about_and_outlasts_a_crash(hand):
+    hand.fresh()
+    hand.tab_of("pattern")
+    hand.choose("#pattern-size", "6x10")
+    assert hand.tab.value(IS_LEFT), "nothing was painted"
+    hand.choose("#pattern-code", "80")
+    hand.press(*hand.place(2, 3, 6, 10, "pixels"))
+    hand.settle()
+    pixels = hand.tab.value(PIXELS)
+    assert hand.text("name").endswith("●") and not hand.tab.value(IS_LEFT), "a sign is left without a word"
+    hand.crash()
+    assert hand.tab.value(PIXELS) == pixels and "1" in pixels, "the sign is lost by a crash"
+    assert hand.tab.value("[Tamligub.part('pattern-code').value, Tamligub.part('pattern-size').value]") == ["80", "6x10"]
+    data = hand.kept("#keep-page")[1]
+    assert hand.lines()[-1].startswith("raw 1F23") and data == hand.edited(), hand.script()
+    assert not hand.text("name").endswith("●") and hand.tab.value(IS_LEFT), "what was saved is asked about"
 
 
 def refused_items_are_told(hand):
@@ -640,6 +981,24 @@ def refused_items_are_told(hand):
     assert "zu lang" in hand.text("fault"), hand.text("fault")
     hand.fill("#script", "at 1 1\n")
     assert hand.text("fault") == "" and hand.lines() == ["at 1 1"]
+
+
+def a_message_ends_with_its_page(hand):
+    """What was told of one page isn't told of the next, nor in another language."""
+    hand.fresh()
+    hand.click("#tidy")
+    assert hand.text("note"), "nothing is told"
+    hand.open(page("title"))
+    assert hand.text("note") == hand.text("state") == "", hand.text("note")
+    longer = hand.written("longer.script", b"#" * (1 << 20) + b"\n")
+    hand.open(longer)
+    assert "zu lang" in hand.text("fault"), hand.text("fault")
+    hand.click("#new")
+    hand.tab.until("Tamligub.editor.sheet.page.length === 0")
+    assert hand.text("fault") == "", hand.text("fault")
+    hand.click("#tidy")
+    hand.choose("#language", "en")
+    assert hand.text("note") == "", hand.text("note")
 
 
 SAME_PICTURE = """async (pictures) => {
@@ -676,6 +1035,26 @@ def what_is_kept(hand):
     hand.fresh(page("flashing"), hand.written("flashing.txt", script))
     still(hand)
     assert hand.looks() == shown and hand.script() == script.decode(), "page and script opened again show something else"
+
+
+def the_picture_reveals_what_is_revealed(hand):
+    hand.fresh()
+    hand.write_script("at 3 3\nc1 24\ntext geheim\n")
+    kept = hand.written("concealed.btx", hand.edited())
+    for words in ((), ("--reveal",)):
+        pictures = [base64.b64encode(one).decode() for one in (hand.kept("#keep-picture")[1], btx(hand, "png", *words, kept))]
+        assert hand.tab.value(f"({SAME_PICTURE})({json.dumps(pictures)})"), f"the picture isn't that of btx png {words}"
+        hand.click("#reveal")
+
+
+def what_is_not_opened_is_told(hand):
+    """One of two pages, and what is no page by its name, or a drawing."""
+    hand.fresh(page("title"), page("boat"))
+    assert hand.text("name") == "title.btx" and "Nicht geöffnet: boat.btx;" in hand.text("note"), hand.text("note")
+    hand.open(hand.written("README.md", b"# A"))
+    assert hand.text("name") == "README.md" and hand.text("note").startswith("README.md ist als Seite geöffnet"), hand.text("note")
+    hand.open(os.path.join(PAGES, "weather.drawing"))
+    assert hand.text("name") == "README.md" and "weather.drawing: Zeilen einer Zeichnung" in hand.text("fault"), hand.text("fault")
 
 
 # What is seen after each of two rounds of turns.
@@ -853,9 +1232,9 @@ def every_control_has_a_name_in_both_languages(hand):
 
 def it_fits_small_screens(hand):
     hand.fresh(page("title"))
-    for width, height in ((1024, 700), (1280, 800), (768, 1024), (820, 1180)):
+    for width, height in ((1024, 700), (1280, 800), (768, 1024), (820, 1180), (320, 640)):
         access.laid_out(hand.tab, width, height)
-        for panel in ("pen", "mosaic", "draw", "pattern", "sheet", "colours"):
+        for panel in PANELS:
             hand.tab.value(f"Tamligub.part('tab-{panel}').click()")
             wide, high = hand.tab.value("[document.documentElement.scrollWidth, document.documentElement.scrollHeight]")
             assert wide <= width, f"{panel} is wider than {width}: {wide}"
@@ -963,11 +1342,17 @@ def no_other_script_runs(hand):
 
 CASES = (
     a_page_is_drawn_undone_made_again_and_kept, typing_is_lines, a_page_keeps_what_is_not_touched, signs_of_all_sets_are_typed,
-    scripts_are_typed, signs_are_composed, each_attribute_is_a_line, serial_attributes_are_markers,
-    rows_screen_area_format_and_colours_are_lines,
-    patterns_have_inks, drawings_are_seen_before_they_are_kept, without_plot_only_drawing_is_absent, a_bad_line_is_told,
+    scripts_are_typed, signs_are_composed, what_is_protected_stays_and_that_is_told,
+    each_attribute_is_a_line, serial_attributes_are_markers,
+    rows_screen_area_format_and_colours_are_lines, the_format_bounds_caret_and_drawing,
+    patterns_have_inks, a_sign_that_is_written_is_defined_before,
+    drawings_are_seen_before_they_are_kept, without_plot_only_drawing_is_absent, a_bad_line_is_told,
+    a_drawing_is_asked_about_and_outlasts_a_crash, a_painted_sign_is_asked_about_and_outlasts_a_crash,
+    a_script_is_typed_key_by_key, what_was_written_in_the_script_is_undone_there, an_undo_leads_to_where_the_action_began,
+    a_drawing_is_undone_figure_by_figure, while_drawing_nothing_is_written, another_page_has_no_drawing, a_message_ends_with_its_page,
     lines_are_stepped_and_pointed_at, the_items_of_a_page_are_stepped_and_marked, a_page_is_cut_and_made_lines,
     a_crash_loses_nothing, an_unsaved_page_is_asked_about, refused_items_are_told, what_is_kept,
+    the_picture_reveals_what_is_revealed, what_is_not_opened_is_told,
     what_flashes_is_that_of_flash, letters_of_the_browsers_font_take_the_place_of_dots, tidying_takes_undone_lines_out,
     the_keyboard_alone_does_all, every_control_has_a_name_in_both_languages, it_fits_small_screens, a_finger_places_the_caret,
     each_panel_serves_a_person_without_a_mouse, with_less_motion_nothing_moves,

@@ -21,7 +21,7 @@ KEYS = f"""{WORK}(Array.from(%s, (sign) => () => {{
   field.value = sign;
   field.dispatchEvent(new InputEvent("input", {{ data: sign }}));
 }}))"""
-TURNS = f"""{WORK}(%s.map((word) => () => Tamligub.editor.turn(word)))"""
+TURNS = f"""{WORK}(%s.map((word) => () => Tamligub.editor.undoRedo(word)))"""
 # Lines that a key makes: the line of what is typed in the place of the one before, which is taken back; and the lines before the first.
 MOST_LINES = 4
 # A longer script is laid out after a pause.

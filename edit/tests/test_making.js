@@ -48,7 +48,7 @@ test("the last line is left out, and the screen is as before it", () => {
   assert.deepStrictEqual([signs(making.end()), making.last().before], ["C  ", [32]]);
 });
 
-test("edits are kept until they are undone, and can be made again until another comes", () => {
+test("edits are kept until they are undone, and can be redone until another comes", () => {
   const nothing = step();
   const lines = [["text A", nothing], ["text B", nothing], ["# note", null], ["text C", nothing], ["undo", nothing], ["undo", nothing]];
   assert.deepStrictEqual(made(lines).edits(), { kept: [0], undone: [3, 1] });

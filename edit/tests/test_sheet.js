@@ -38,27 +38,37 @@ asked("one undo takes a whole action back, and one redo makes it again", () => {
   const sheet = sheetOf();
   sheet.add(["at 1 1", "text A"]);
   sheet.add(["at 2 1", "c1 1", "text B"]);
-  assert.ok(sheet.turn("undo"));
+  assert.ok(sheet.undoRedo("undo"));
   assert.deepStrictEqual(sheet.lines.slice(6), ["", "undo", "undo", "undo"]);
   assert.deepStrictEqual([rowOf(sheet, 1), rowOf(sheet, 2), sheet.kept()], ["A", "", [0, 1]]);
   isTrue(sheet);
-  assert.ok(sheet.turn("redo"));
+  assert.ok(sheet.undoRedo("redo"));
   assert.deepStrictEqual(sheet.lines.slice(10), ["", "redo", "redo", "redo"]);
   assert.deepStrictEqual([rowOf(sheet, 2), sheet.kept()], ["B", [0, 1, 3, 4, 5]]);
   isTrue(sheet);
-  assert.ok(sheet.turn("undo") && sheet.turn("undo"));
+  assert.ok(sheet.undoRedo("undo") && sheet.undoRedo("undo"));
   const before = sheet.script();
-  assert.strictEqual(sheet.turn("undo"), false);
+  assert.strictEqual(sheet.undoRedo("undo"), false);
   assert.deepStrictEqual([sheet.script(), sheet.kept(), rowOf(sheet, 1)], [before, [], ""]);
 });
 
-asked("after another action nothing is made again", () => {
+asked("where the action began that would be undone is said by its first line, and by no other", () => {
+  const sheet = sheetOf(PAGE);
+  assert.strictEqual(sheet.beginning(), null);
+  sheet.add(["parallel", "at 3 4", "c1 1", "text A"]);
+  sheet.add(["text B", "at 9 9", "text C"]);
+  assert.strictEqual(sheet.beginning(), null);
+  sheet.undoRedo("undo");
+  assert.deepStrictEqual(sheet.beginning(), [3, 4]);
+});
+
+asked("after another action nothing is redone", () => {
   const sheet = sheetOf();
   sheet.add(["text A"]);
-  sheet.turn("undo");
+  sheet.undoRedo("undo");
   sheet.add(["text B"]);
   const [script, before] = [sheet.script(), sheet.making.count];
-  assert.strictEqual(sheet.turn("redo"), false);
+  assert.strictEqual(sheet.undoRedo("redo"), false);
   assert.strictEqual(sheet.script(), script);
   assert.strictEqual(sheet.making.count, before, "a line is made");
 });
@@ -67,7 +77,7 @@ asked("tidying leaves out what was undone, with its notes, and the page stays", 
   const sheet = sheetOf();
   sheet.add(["# kept", "at 1 1", "text A"]);
   sheet.add(["# undone", "at 2 1", "text B"]);
-  sheet.turn("undo");
+  sheet.undoRedo("undo");
   sheet.add(["at 3 1", "text C"]);
   const page = sheet.edited();
   assert.ok(sheet.tidy());
@@ -91,7 +101,7 @@ asked("the set and the table in force are asked of the page under way", () => {
   sheet.add(["table 2", "text A"]);
   sheet.add(["table 3", "serial"]);
   assert.deepStrictEqual([sheet.inForce().set, sheet.inForce().table], ["serial", "table 3"]);
-  sheet.turn("undo");
+  sheet.undoRedo("undo");
   assert.deepStrictEqual([sheet.inForce().set, sheet.inForce().table], ["parallel", "table 2"]);
   // Before an action that begins by setting control back neither is said to be in force.
   const other = sheetOf(PAGE);
@@ -112,26 +122,26 @@ asked("undo goes as far as the program keeps edits, and lines of a long script s
   // Two edits each; the last 64 edits are kept, so those of 32 actions.
   for (let at = 0; at < 40; at++) sheet.add([`at ${1 + (at % 24)} 1`, `text Zeile ${at}`]);
   let count = 0;
-  while (sheet.turn("undo")) count++;
+  while (sheet.undoRedo("undo")) count++;
   assert.deepStrictEqual([count, sheet.kept().length, rowOf(sheet, 8)], [32, 16, "Zeile 7"]);
   isTrue(sheet);
-  for (; count > 0; count--) assert.ok(sheet.turn("redo"));
-  assert.strictEqual(sheet.turn("redo"), false);
+  for (; count > 0; count--) assert.ok(sheet.undoRedo("redo"));
+  assert.strictEqual(sheet.undoRedo("redo"), false);
   assert.deepStrictEqual([sheet.kept().length, rowOf(sheet, 16)], [80, "Zeile 39"]);
   isTrue(sheet);
 });
 
-asked("what was taken out of the script can't be made again, and what was undone before it can", () => {
+asked("what was taken out of the script can't be redone, and what was undone before it can", () => {
   const sheet = sheetOf();
   sheet.add(["at 1 1", "text A"]);
   sheet.add(["at 2 1", "text B"]);
-  sheet.turn("undo");
+  sheet.undoRedo("undo");
   const before = sheet.lines.length;
   sheet.add(["at 3 1", "text C"]);
   sheet.change(before, []);
   assert.deepStrictEqual([rowOf(sheet, 1), rowOf(sheet, 2), rowOf(sheet, 3)], ["A", "", ""]);
   isTrue(sheet);
-  assert.ok(sheet.turn("redo"));
+  assert.ok(sheet.undoRedo("redo"));
   assert.deepStrictEqual([rowOf(sheet, 1), rowOf(sheet, 2), rowOf(sheet, 3)], ["A", "B", ""]);
   isTrue(sheet);
 });
@@ -150,7 +160,7 @@ asked("what edits were dropped for can be undone once these are gone", () => {
   assert.deepStrictEqual(sheet.making.nothings, [sheet.lines.length]);
 });
 
-asked("undos that are taken out of the script are made again, and lines before them too", () => {
+asked("undos that are taken out of the script are redone, and lines before them too", () => {
   const sheet = sheetOf();
   sheet.setScript("at 1 1\ntext A\nundo\nundo\nredo\ntext B\n");
   isTrue(sheet);

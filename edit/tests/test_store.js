@@ -32,7 +32,10 @@ class Locks {
   }
 }
 
-const KEPT = { name: "boat.btx", page: Uint8Array.of(0, 0x41, 0xff), cuts: [], script: "at 1 1\ntext A\n", saved: "", isOther: false };
+const KEPT = {
+  name: "boat.btx", page: Uint8Array.of(0, 0x41, 0xff), cuts: [], script: "at 1 1\ntext A\n", saved: "", isOther: false, drawing: "", painted: null,
+};
+const PAINTED = { code: 0x21, size: "6x5", planes: 1, field: [1, 0, 1] };
 
 // An editor that begins over a storage; of one that ended only what the storage has is left.
 async function begun(storage) {
@@ -53,8 +56,8 @@ test("what was left unsaved is taken by the next editor, which goes on in its pl
   assert.strictEqual(first.taken, null);
   assert.ok(first.store.put(KEPT, true));
   const second = await begun(storage);
-  const { name, page, cuts, script, saved, isOther } = second.taken;
-  assert.deepStrictEqual({ name, page, cuts, script, saved, isOther }, KEPT);
+  const { name, page, cuts, script, saved, isOther, drawing, painted } = second.taken;
+  assert.deepStrictEqual({ name, page, cuts, script, saved, isOther, drawing, painted }, KEPT);
   assert.strictEqual(second.store.id, first.store.id);
 });
 
@@ -73,6 +76,15 @@ test("the cuts of a page are kept with it, and a page that was cut is unsaved wh
   (await begun(storage)).store.put({ ...KEPT, cuts, saved: KEPT.script, isOther: true }, true);
   const { taken } = await begun(storage);
   assert.deepStrictEqual([taken.cuts, taken.isOther, taken.script], [cuts, true, KEPT.script]);
+});
+
+test("what is drawn or painted is kept with a script that was saved, and is unsaved", async () => {
+  for (const begins of [{ drawing: "plot 1 2\nbox 1 1 5 5", painted: null }, { drawing: "", painted: PAINTED }]) {
+    const storage = new Memory();
+    (await begun(storage)).store.put({ ...KEPT, saved: KEPT.script, ...begins }, true);
+    const { drawing, painted } = (await begun(storage)).taken;
+    assert.deepStrictEqual({ drawing, painted }, begins);
+  }
 });
 
 test("what was saved isn't taken, and goes", async () => {

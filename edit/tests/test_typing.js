@@ -52,6 +52,41 @@ asked("the last sign is taken back from its line, and with the first goes the ac
   assert.deepStrictEqual([sheet.script(), place()], ["at 4 6\ntext  \n", [4, 6]]);
 });
 
+asked("where what is protected or covered stays it is said, and where the same sign stands it isn't", () => {
+  const { typing, sheet, told, press } = caretOf();
+  sheet.add(["at 2 1", "protect", "text AB", "unprotect", "at 4 1", "c1 13", "text H", "c1 12"]);
+  const saidAt = (row, column, act) => {
+    typing.place(row, column);
+    told.length = 0;
+    act();
+    return told.includes("said");
+  };
+  assert.deepStrictEqual(["A", "X", "X"].map((letter, at) => saidAt(2, at + 1, () => typing.type(letter))), [false, true, false]);
+  assert.strictEqual(rowOf(sheet, 2), "ABX");
+  assert.deepStrictEqual([2, 3, 6].map((row) => saidAt(row, 1, () => press("Delete"))), [true, false, false]);
+  // Row 5 has the lower half of the high letter.
+  assert.deepStrictEqual([5, 4].map((row) => saidAt(row, 1, () => typing.type("K"))), [true, false]);
+  // A stretch that goes on into protected cells.
+  typing.place(1, 40);
+  const kinds = [..."yzz"].map((letter) => {
+    told.length = 0;
+    typing.type(letter);
+    return told.includes("said");
+  });
+  assert.deepStrictEqual(kinds, [false, true, true]);
+});
+
+asked("the caret stays in the format", () => {
+  const { typing, sheet, press, place } = caretOf();
+  press("PageDown");
+  assert.deepStrictEqual(place(), [24, 1]);
+  sheet.add(["raw 1F2D4270"]);
+  typing.bound();
+  assert.deepStrictEqual(place(), [20, 1]);
+  press("ArrowDown", "End");
+  assert.deepStrictEqual(place(), [20, 40]);
+});
+
 asked("a new line goes to the start of the next row, below what reaches into it", () => {
   const { typing, sheet, place } = caretOf();
   typing.type("A\nB");

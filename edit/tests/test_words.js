@@ -2,7 +2,7 @@
 import assert from "node:assert";
 import { test } from "node:test";
 import "./scripts.js";
-import { documentOf, sortedFiles, withEnding } from "../keep.js";
+import { documentOf, remarksOn, sortedFiles, withEnding } from "../keep.js";
 import { PALETTES } from "../mosaic.js";
 import { TABLES, word } from "../words.js";
 
@@ -19,11 +19,22 @@ test("a word has values in the places of their names", () => {
 
 test("a file is a script by its name, and another is the page", () => {
   const [page, script] = [{ name: "boat.btx" }, { name: "boat.TXT" }];
-  assert.deepStrictEqual(sortedFiles([script, page]), { script, page });
-  assert.deepStrictEqual(sortedFiles([page]), { script: undefined, page });
-  assert.deepStrictEqual(sortedFiles([script]), { script, page: undefined });
-  assert.deepStrictEqual(sortedFiles([]), { script: undefined, page: undefined });
+  assert.deepStrictEqual(sortedFiles([script, page]), { script, page, rest: [] });
+  assert.deepStrictEqual(sortedFiles([page]), { script: undefined, page, rest: [] });
+  assert.deepStrictEqual(sortedFiles([script]), { script, page: undefined, rest: [] });
+  assert.deepStrictEqual(sortedFiles([]), { script: undefined, page: undefined, rest: [] });
+  const [other, drawing] = [{ name: "house.btx" }, { name: "boat.drawing" }];
+  assert.deepStrictEqual(sortedFiles([drawing, page, script, other, script]), { script, page, rest: [drawing, other] });
   assert.deepStrictEqual([withEnding("boat.btx", ".png"), withEnding("a.b.script", ".txt"), withEnding("boat", "")], ["boat.png", "a.b.txt", "boat"]);
+});
+
+test("what isn't opened is told, and what is taken for a page", () => {
+  assert.strictEqual(remarksOn("boat.btx", []), "");
+  assert.strictEqual(remarksOn(null, []), "");
+  assert.match(remarksOn("boat.png", []), /^boat\.png ist als Seite geöffnet, /);
+  assert.match(remarksOn("boat.btx", ["house.btx", "a.txt"]), /^Nicht geöffnet: house\.btx, a\.txt; /);
+  assert.match(remarksOn(null, ["boat.drawing"]), /^boat\.drawing: Zeilen einer Zeichnung /);
+  assert.match(remarksOn("README.md", ["boat.drawing", "x"]), /^README\.md ist .* boat\.drawing: .* Nicht geöffnet: x; /);
 });
 
 test("what is kept as HTML can end no script in its document", () => {

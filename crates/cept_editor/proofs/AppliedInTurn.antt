@@ -23,6 +23,7 @@ use Rattle.cept_repaint.specs.InTurn.{state_after_all, rows_in_reach_of_all}
 use Rattle.cept_editor.specs.Applying.{MarksLast, ResolvesRenewed}
 use Rattle.cept_editor.specs.inside.Applying.{AppliesAll}
 use Rattle.cept_repaint.specs.InTurn.{rows_renewed_by_all}
+use Rattle.cept_repaint.proofs.Laws.{state_after_all-append, rows_in_reach_of_all-append, rows_renewed_by_all-append}
 use Rattle.cept_editor.specs.Events.{Event, event_changes, report}
 use Rattle.cept_editor.specs.Made.{Output, output_of, IsMade, AreMade}
 use Rattle.cept_editor.specs.Stepping.{event_from, edit_events}
@@ -77,14 +78,7 @@ one_more_differs h c same = omega (arith, ap length same, length-append h (c ∷
 state_after_all-more : (s : State) (cs : List Command) (c : Command)
     → state_after_all s (cs ++ c ∷ []) ≡ state_after (state_after_all s cs) c
 unfolding state_after_all
-state_after_all-more s [] c = refl
-state_after_all-more s (first ∷ cs) c = state_after_all-more (state_after s first) cs c
-
-rows-append : (s : State) (cs ds : List Command)
-    → rows_in_reach_of_all s (cs ++ ds) ≡ rows_in_reach_of_all s cs + rows_in_reach_of_all (state_after_all s cs) ds
-unfolding state_after_all rows_in_reach_of_all
-rows-append s [] ds = omega arith
-rows-append s (c ∷ cs) ds = let rest = rows-append (state_after s c) cs ds in omega (arith, rest)
+state_after_all-more s cs c = state_after_all-append s cs (c ∷ [])
 
 rows-one : (s : State) (c : Command) → rows_in_reach_of_all s (c ∷ []) ≡ rows_in_reach s c
 unfolding rows_in_reach_of_all
@@ -94,12 +88,6 @@ rows-first : (s : State) (c : Command) (cs : List Command)
     → rows_in_reach_of_all s (c ∷ cs) ≡ rows_in_reach s c + rows_in_reach_of_all (state_after s c) cs
 unfolding rows_in_reach_of_all
 rows-first s c cs = refl
-
-renewed-append : (s : State) (cs ds : List Command)
-    → rows_renewed_by_all s (cs ++ ds) ≡ rows_renewed_by_all s cs + rows_renewed_by_all (state_after_all s cs) ds
-unfolding state_after_all rows_renewed_by_all
-renewed-append s [] ds = omega arith
-renewed-append s (c ∷ cs) ds = let rest = renewed-append (state_after s c) cs ds in omega (arith, rest)
 
 renewed-one : (s : State) (c : Command) → rows_renewed_by_all s (c ∷ []) ≡ rows_renewed_by s c
 unfolding rows_renewed_by_all
@@ -111,7 +99,7 @@ renewed-more : (old mid : State) (done : List Command) (c : Command) (start tick
     → ticks + rows_renewed_by mid c ≤ ticks' → start + rows_renewed_by_all old (done ++ c ∷ []) ≤ ticks'
 renewed-more old mid done c start ticks ticks' stands had one =
     let renewed = ap (λ s. rows_renewed_by s c) stands in
-    omega (arith, had, one, renewed, renewed-append old done (c ∷ []), renewed-one (state_after_all old done) c)
+    omega (arith, had, one, renewed, rows_renewed_by_all-append old done (c ∷ []), renewed-one (state_after_all old done) c)
 
 -- ---- so far
 
@@ -187,7 +175,7 @@ gone_more listed line whole left c old before mid now new after marks marks' sta
       };
       cost =
           let reach = ap (λ s. rows_in_reach s c) g.stands in
-          omega (arith, g.cost, one.applied.cost, reach, rows-append old g.done (c ∷ []), rows-one (state_after_all old g.done) c);
+          omega (arith, g.cost, one.applied.cost, reach, rows_in_reach_of_all-append old g.done (c ∷ []), rows-one (state_after_all old g.done) c);
       least = renewed-more old mid g.done c start ticks ticks' g.stands g.least one.applied.least;
       at_most = omega (arith, g.at_most, one.applied.at_most_24, length-append g.done (c ∷ []));
     }
@@ -324,7 +312,7 @@ pub stopped_cost : {new : State} {marks' : List Bool} {glass : GlassState} (list
     → IsApplied mid c new marks' now.glass glass ticks ticks' → (ticks' ≤ start + rows_in_reach_of_all old whole) × (ticks' ≤ start + 24 * length whole)
 stopped_cost listed line whole left c old before mid now marks start ticks ticks' g one =
     let reach = ap (λ s. rows_in_reach s c) g.stands in
-    let rows = ap (rows_in_reach_of_all old) g.split ∙ rows-append old g.done (c ∷ left) in
+    let rows = ap (rows_in_reach_of_all old) g.split ∙ rows_in_reach_of_all-append old g.done (c ∷ left) in
     let first = rows-first (state_after_all old g.done) c left in
     let size = ap length g.split ∙ length-append g.done (c ∷ left) in
     (omega (arith, g.cost, one.cost, reach, rows, first), omega (arith, g.at_most, one.at_most_24, size))

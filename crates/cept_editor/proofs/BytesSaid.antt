@@ -2,7 +2,7 @@
 use Rattle.std.proofs.Common.{◌≡◌, ℕ, ◌+◌, ◌<◌, ◌≤◌, Bool, true, false, ◌||◌, List, [], ◌∷◌, ◌++◌, length, Option, Some, None}
 use Rattle.std.proofs.Common.{IsSome, refl, sym, ap, ◌∙◌, subst, arith, ◌-◌, ◌==◌, is_some, slice_index, take, drop}
 use Rattle.std.specs.List.{list_any, AllByRecursion}
-use Rattle.std.specs.Option.{unwrap_or}
+use Rattle.std.specs.Option.{option_map, option_zip, unwrap_or}
 use Rattle.std.proofs.lemmas.List.{append_assoc, append-nil, take_all}
 use Rattle.hex.specs.Hex.{hex_digit_value}
 use Rattle.cept_codes.specs.Command.{IsValidCommand, IsValidSaid}
@@ -15,7 +15,7 @@ use Rattle.cept_parser.specs.Items as reads
 use Rattle.cept_parser.specs.Items.{is_refusal, items, closed_items, closing_items, command_said, commands_of, commands}
 use Rattle.cept_parser.specs.State.{ParserState, Leads, reading_with, parser_after, pending_reading}
 use Rattle.cept_parser.specs.Valid.{AreValid}
-use Rattle.cept_editor.specs.Meaning.{byte_of, with_byte, hex_bytes, bytes_have_refusal}
+use Rattle.cept_editor.specs.Meaning.{byte_of, hex_bytes, bytes_have_refusal}
 use Rattle.cept_editor.specs.Order.{raw_bytes, start_state, items_from}
 
 -- one of the items is refused
@@ -131,6 +131,10 @@ pub said_with : (all : List ℕ) (a b : Bool) → a ≡ b → HasSaid all a → 
 said_with all a b e g = subst (λ (x : Bool). HasSaid all x) e g
 
 -- ---- pairs of digits
+
+-- a byte before others, where all can be read
+abbrev pub with_byte : Option ℕ → Option (List ℕ) → Option (List ℕ)
+with_byte o bytes = option_map (λ read. read.0 ∷ read.1) (option_zip o bytes)
 
 pub pair_read : (byte : ℕ) (o : Option ℕ) (bytes : Option (List ℕ)) → o ≡ Some byte → IsSome (with_byte o bytes)
     → IsSome bytes × (unwrap_or (with_byte o bytes) [] ≡ byte ∷ unwrap_or bytes [])

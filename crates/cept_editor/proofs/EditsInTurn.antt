@@ -11,9 +11,9 @@ use Rattle.cept_profile.specs.Look.{grid}
 use Rattle.cept_profile.proofs.Laws.{grid_with_paints-append}
 use Rattle.cept_undo.specs.Past.{most_kept}
 use Rattle.cept_editor.specs.Events.{Event, event_changes, paints}
-use Rattle.cept_editor.specs.Kept.{KeptEdits, none_kept, finds_nothing, kept_after_turn, kept_after, kept_after_all, kept}
+use Rattle.cept_editor.specs.Kept.{KeptEdits, none_kept, finds_nothing, kept_after_undo_redo, kept_after, kept_after_all, kept}
 use Rattle.cept_editor.specs.Kept.{remaining, states_before, states_again, commands_of_edits}
-use Rattle.cept_editor.specs.Meaning.{Step, TurnKind, Turn, TakeBack, MakeAgain, Edit}
+use Rattle.cept_editor.specs.Meaning.{Step, UndoRedoKind, UndoRedo, Undo, Redo, Edit}
 use Rattle.cept_editor.specs.Stepping.{event_from, edit_events, nothing_event, line_events}
 use Rattle.cept_editor.proofs.MadeEvents.{paints-append, paints-one, paints-none, no_paint, event_shown}
 
@@ -62,17 +62,17 @@ remaining-edit page k commands =
     ap (λ l. page ++ l) (commands_of_edits-more k.edits commands)
     ∙ sym (append_assoc page (commands_of_edits k.edits) commands)
 
--- ---- how many can be taken back and made again
+-- ---- how many can be undone and redone
 
 one_more_few : (k : KeptEdits) (step : Step) → k.count + length k.undone ≤ most_kept
     → (kept_after k step).count + length (kept_after k step).undone ≤ most_kept
 one_more_few k (Edit commands) few = omega arith
-one_more_few k (Turn turn) few = turned turn (finds_nothing turn k) refl
+one_more_few k (UndoRedo which) few = moved which (finds_nothing which k) refl
   where
-    turned : (turn : TurnKind) (none : Bool) → finds_nothing turn k ≡ none
-        → (cond none k (kept_after_turn k turn)).count + length (cond none k (kept_after_turn k turn)).undone ≤ most_kept
-    turned turn true is = few
-    turned TakeBack false is =
+    moved : (which : UndoRedoKind) (none : Bool) → finds_nothing which k ≡ none
+        → (cond none k (kept_after_undo_redo k which)).count + length (cond none k (kept_after_undo_redo k which)).undone ≤ most_kept
+    moved which true is = few
+    moved Undo false is =
         omega (
           arith,
           few,
@@ -80,7 +80,7 @@ one_more_few k (Turn turn) few = turned turn (finds_nothing turn k) refl
           length-drop (length k.edits - 1) k.edits,
           length-append (drop (length k.edits - 1) k.edits) k.undone,
         )
-    turned MakeAgain false is = omega (arith, few, some_of (length k.undone) is, length-drop 1 k.undone)
+    moved Redo false is = omega (arith, few, some_of (length k.undone) is, length-drop 1 k.undone)
 
 all_few : (k : KeptEdits) (steps : List Step) → k.count + length k.undone ≤ most_kept
     → (kept_after_all k steps).count + length (kept_after_all k steps).undone ≤ most_kept
@@ -88,7 +88,7 @@ unfolding kept_after_all
 all_few k [] few = few
 all_few k (step ∷ more) few = all_few (kept_after k step) more (one_more_few k step few)
 
--- what can be taken back and made again is no more than may be kept
+-- what can be undone and redone is no more than may be kept
 pub kept-few : (steps : List Step) → (kept steps).count + length (kept steps).undone ≤ most_kept
 kept-few steps = all_few none_kept steps (omega arith)
 
@@ -208,24 +208,24 @@ either_after : (b : Bool) (x y : Event) (h : List Command) → (b ≡ true → x
 either_after true x y h first second = first refl
 either_after false x y h first second = second
 
-turn_shown : (listed : Bool) (line : ℕ) (page : List Command) (k : KeptEdits) (turn : TurnKind)
-    → grid_with_paints (grid (remaining page k)) (paints (line_events listed line page k (Turn turn)))
-    ≡ grid (remaining page (kept_after k (Turn turn)))
-turn_shown listed line page k turn =
-    let none : Bool = finds_nothing turn k in
-    let left = remaining page (kept_after k (Turn turn)) in
+undo_redo_shown : (listed : Bool) (line : ℕ) (page : List Command) (k : KeptEdits) (which : UndoRedoKind)
+    → grid_with_paints (grid (remaining page k)) (paints (line_events listed line page k (UndoRedo which)))
+    ≡ grid (remaining page (kept_after k (UndoRedo which)))
+undo_redo_shown listed line page k which =
+    let none : Bool = finds_nothing which k in
+    let left = remaining page (kept_after k (UndoRedo which)) in
     let nothing = nothing_event listed line (remaining page k) in
-    let turned = event_from listed line (remaining page k) left in
-    let e : Event = cond none nothing turned in
-    let before : e.before ≡ remaining page k = either_before none nothing turned (remaining page k) refl refl in
+    let moved = event_from listed line (remaining page k) left in
+    let e : Event = cond none nothing moved in
+    let before : e.before ≡ remaining page k = either_before none nothing moved (remaining page k) refl refl in
     let after : e.after ≡ left =
-    either_after none nothing turned left
-    (λ is. ap (λ (b : Bool). remaining page (cond b k (kept_after_turn k turn))) (sym is)) refl in
+    either_after none nothing moved left
+    (λ is. ap (λ (b : Bool). remaining page (cond b k (kept_after_undo_redo k which))) (sym is)) refl in
     ap (λ h. grid_with_paints (grid h) (paints (e ∷ []))) (sym before) ∙ one_shown e ∙ ap grid after
 
 pub line_shown : (listed : Bool) (line : ℕ) (page : List Command) (k : KeptEdits) (step : Step)
     → grid_with_paints (grid (remaining page k)) (paints (line_events listed line page k step))
     ≡ grid (remaining page (kept_after k step))
-line_shown listed line page k (Turn turn) = turn_shown listed line page k turn
+line_shown listed line page k (UndoRedo which) = undo_redo_shown listed line page k which
 line_shown listed line page k (Edit commands) =
     edit_shown listed line (remaining page k) commands ∙ ap grid (sym (remaining-edit page k commands))

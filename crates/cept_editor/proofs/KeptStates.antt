@@ -1,4 +1,4 @@
--- An editor after one more edit line: where it stands, and the states that it can bring back.
+-- An editor after one more edit line: where it stands, and the states to which undo leads.
 use Rattle.std.proofs.Common.{◌≡◌, ℕ, zero, suc, ◌+◌, ◌-◌, ◌<◌, min, List, [], ◌∷◌, ◌++◌}
 use Rattle.std.proofs.Common.{map, take, length, refl, sym, ap, subst, ◌∙◌, append-nil, arith}
 use Rattle.std.proofs.lemmas.List.{take_all, take-append-le, length-append}

@@ -10,4 +10,4 @@ pub use Rattle.cept_editor.proofs.EditsInTurn.{states_again-none, line_shown}
 pub use Rattle.cept_editor.proofs.KeptStates.{StandsAfter-start}
 pub use Rattle.cept_editor.proofs.StatesInTurn.{editor_after-steps}
 pub use Rattle.cept_editor.proofs.LinesByStates.{StandsAfter-step, paints-step}
-pub use Rattle.cept_editor.proofs.TurnedStates.{idle_turn}
+pub use Rattle.cept_editor.proofs.UndoRedoStates.{idle_undo_redo}

@@ -12,7 +12,7 @@ pub mod WorkedRanges
 mod MadeEvents
 mod EditsInTurn
 mod KeptStates
-mod TurnedStates
+mod UndoRedoStates
 mod AppliedInTurn
 mod LinesMade
 mod EditsKept

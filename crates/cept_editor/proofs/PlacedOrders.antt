@@ -22,7 +22,7 @@ use Rattle.cept_editor.specs.Table.{row_of}
 -- ---- an order without bytes
 
 plain_is : (o : Order) (bytes : List ℕ) (span : Span) → IsPlainOrder o → IsSoundOrder bytes span o
-plain_is (orders.Turn turn) bytes span p = tt
+plain_is (orders.UndoRedo which) bytes span p = tt
 plain_is (orders.One brief) bytes span p = p
 plain_is (orders.Text s) bytes span p = absurd p
 plain_is (orders.Raw s) bytes span p = absurd p
@@ -40,7 +40,7 @@ IsPlacedAs script bytes o = (step_at script o ≡ order_step bytes o) × IsPlace
 
 placed_as : (script bytes : List ℕ) (span : Span) (o : Order) → LiesIn script span → bytes_at script span ≡ bytes
     → IsSoundOrder bytes span o → IsPlacedAs script bytes o
-placed_as script bytes span (orders.Turn turn) lies is s =
+placed_as script bytes span (orders.UndoRedo which) lies is s =
     (refl, record { lies = record { forward = omega arith; within = omega arith }; sound = tt })
 placed_as script bytes span (orders.One brief) lies is s =
     (refl, record { lies = record { forward = omega arith; within = omega arith }; sound = s })

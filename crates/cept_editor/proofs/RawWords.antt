@@ -15,8 +15,9 @@ use Rattle.cept_parser.specs.declared.context.Context.{Context}
 use Rattle.cept_parser.specs.Context.{start_context}
 use Rattle.cept_parser.specs.Items.{Front, front, reading_by, reading_within, closing_items, closed_items, is_refusal}
 use Rattle.cept_parser.specs.Items.{command_said, commands_of, commands}
-use Rattle.cept_editor.specs.Meaning.{byte_of, with_byte, hex_bytes, bytes_have_refusal, bytes_step, Step, Edit}
+use Rattle.cept_editor.specs.Meaning.{byte_of, hex_bytes, bytes_have_refusal, bytes_step, Step, Edit}
 use Rattle.cept_editor.specs.Order.{raw_bytes}
+use Rattle.cept_editor.proofs.BytesSaid.{with_byte}
 
 pub unread_step : (o : Option (List ℕ)) → is_some o ≡ false → bytes_step o ≡ Err reasons.BadHex
 unread_step None e = refl

@@ -1,24 +1,24 @@
 -- What edit lines make of an editor by the states alone is what the kept edits say.
 use Rattle.std.proofs.Common.{◌≡◌, Bool, true, false, List, [], ◌∷◌, ◌++◌, take, Result, Ok, Err, OnOk}
-use Rattle.std.proofs.Common.{refl, sym, ap, subst, ◌∙◌, append_assoc, append-nil, arith}
+use Rattle.std.proofs.Common.{refl, sym, ap, subst, ◌∙◌, arith}
 use Rattle.std.specs.List.{AllByRecursion}
 use Rattle.std.proofs.lemmas.List.{length-append}
 use Rattle.cept_codes.specs.Command.{IsValidCommand}
 use Rattle.cept_codes.specs.declared.command.Command.{Command}
 use Rattle.cept_profile.specs.State.{State, state}
 use Rattle.cept_profile.specs.Valid.{AllValid}
-use Rattle.cept_profile.proofs.Laws.{state-one_more}
+use Rattle.cept_repaint.proofs.Laws.{state-after_all}
 use Rattle.cept_undo.specs.Past.{most_kept}
-use Rattle.cept_editor.specs.Applying.{editor_after_turn, editor_after_step, editor_after_steps, HasMade}
+use Rattle.cept_editor.specs.Applying.{editor_after_undo_redo, editor_after_step, editor_after_steps, HasMade}
 use Rattle.cept_repaint.specs.InTurn.{state_after_all}
 use Rattle.cept_editor.specs.Applying.{MarksLast}
 use Rattle.cept_editor.specs.Kept.{KeptEdits, none_kept, finds_nothing, kept_after, kept_after_all, kept, remaining}
 use Rattle.cept_editor.specs.Kept.{commands_of_edits, EditorState, editor_after}
-use Rattle.cept_editor.specs.Meaning.{Step, TurnKind, Turn, Edit, IsValidStep}
+use Rattle.cept_editor.specs.Meaning.{Step, UndoRedoKind, UndoRedo, Edit, IsValidStep}
 use Rattle.cept_editor.proofs.EditsInTurn.{remaining-edit}
 use Rattle.cept_editor.proofs.KeptStates.{AllByRecursion-append, StandsAfter-start, states_before-edit, states_again-edit}
-use Rattle.cept_editor.proofs.TurnedStates.{none_ahead, kept-idle, kept-turned, idle_turn, AreSound, sound_in_parts}
-use Rattle.cept_editor.proofs.TurnedStates.{remaining_sound, AreSound-turn, editor_turned, turned_as}
+use Rattle.cept_editor.proofs.UndoRedoStates.{none_ahead, kept-idle, kept-moved, idle_undo_redo, AreSound, sound_in_parts}
+use Rattle.cept_editor.proofs.UndoRedoStates.{remaining_sound, AreSound-undo_redo, editor_moved, moved_as}
 
 -- ---- one line
 
@@ -26,17 +26,17 @@ on_ok : {X E : Type 0} (P : Type 0) (result : Result X E) → P → OnOk result 
 on_ok P (Ok x) holds = holds
 on_ok P (Err e) holds = tt
 
--- a turn was made
-pub HasMade-turn : {X E : Type 0} (turn : TurnKind) (old : EditorState) (result : Result X E) (new : EditorState)
-    → new.screen ≡ (editor_after_turn old turn).screen → new.past ≡ (editor_after_turn old turn).past
-    → new.future ≡ (editor_after_turn old turn).future → HasMade (Turn turn) old result new
-HasMade-turn turn old result new screen past future =
-    let is = turned_as turn old new screen past future in
+-- an undo or a redo was made
+pub HasMade-undo_redo : {X E : Type 0} (which : UndoRedoKind) (old : EditorState) (result : Result X E) (new : EditorState)
+    → new.screen ≡ (editor_after_undo_redo old which).screen → new.past ≡ (editor_after_undo_redo old which).past
+    → new.future ≡ (editor_after_undo_redo old which).future → HasMade (UndoRedo which) old result new
+HasMade-undo_redo which old result new screen past future =
+    let is = moved_as which old new screen past future in
     record {
-      whole = on_ok (new ≡ editor_after_turn old turn) result is;
-      turned = λ other same.
-          let turn_is : turn ≡ other = cc in
-          subst (λ (t : TurnKind). new ≡ editor_after_turn old t) turn_is is;
+      whole = on_ok (new ≡ editor_after_undo_redo old which) result is;
+      undo_redo = λ other same.
+          let which_is : which ≡ other = cc in
+          subst (λ (t : UndoRedoKind). new ≡ editor_after_undo_redo old t) which_is is;
       past = past;
       future = future;
     }
@@ -59,7 +59,7 @@ HasMade-edit commands old new marks marked past future = record {
     past = past i;
     future = future i;
   };
-  turned = λ turn same. absurd cc;
+  undo_redo = λ which same. absurd cc;
   past = past;
   future = future;
 }
@@ -70,53 +70,43 @@ pub HasMade-cut : {Y F : Type 0} {f : F} (commands : List Command) (old new : Ed
     → HasMade {X = Y} (Edit commands) old (Err f) new
 HasMade-cut commands old new past future = record {
   whole = tt;
-  turned = λ turn same. absurd cc;
+  undo_redo = λ which same. absurd cc;
   past = past;
   future = future;
 }
 
 -- ---- one line more
 
-pub state_after_all-state : (history commands : List Command) → AllValid history → AllByRecursion IsValidCommand commands
-    → state_after_all (state history) commands ≡ state (history ++ commands)
-unfolding state_after_all
-state_after_all-state history [] valid good = ap state (sym (append-nil history))
-state_after_all-state history (c ∷ cs) valid good =
-    ap (λ s. state_after_all s cs) (sym (state-one_more history c valid good.0))
-    ∙ state_after_all-state (history ++ c ∷ []) cs (AllByRecursion-append IsValidCommand history (c ∷ []) valid (good.0, tt))
-    good.1
-    ∙ ap state (append_assoc history (c ∷ []) cs)
-
--- a turn, by what it finds
-turn_more : (page : List Command) (k : KeptEdits) (turn : TurnKind) → AreSound page k
-    → editor_after_turn (editor_after page k) turn ≡ editor_after page (kept_after k (Turn turn))
-turn_more page k turn sound = by_finding (finds_nothing turn k) refl
+-- an undo or a redo, by what it finds
+undo_redo_more : (page : List Command) (k : KeptEdits) (which : UndoRedoKind) → AreSound page k
+    → editor_after_undo_redo (editor_after page k) which ≡ editor_after page (kept_after k (UndoRedo which))
+undo_redo_more page k which sound = by_finding (finds_nothing which k) refl
   where
-    by_finding : (none : Bool) → finds_nothing turn k ≡ none
-        → editor_after_turn (editor_after page k) turn ≡ editor_after page (kept_after k (Turn turn))
+    by_finding : (none : Bool) → finds_nothing which k ≡ none
+        → editor_after_undo_redo (editor_after page k) which ≡ editor_after page (kept_after k (UndoRedo which))
     by_finding true is =
-        idle_turn (editor_after page k) turn (none_ahead page k turn is)
-        ∙ ap (editor_after page) (sym (kept-idle k turn is))
+        idle_undo_redo (editor_after page k) which (none_ahead page k which is)
+        ∙ ap (editor_after page) (sym (kept-idle k which is))
     by_finding false is =
-        editor_turned page k turn sound.within is ∙ ap (editor_after page) (sym (kept-turned k turn is))
+        editor_moved page k which sound.within is ∙ ap (editor_after page) (sym (kept-moved k which is))
 
 pub editor_after-more : (page : List Command) (k : KeptEdits) (step : Step) → AreSound page k
     → IsValidStep step → editor_after_step (editor_after page k) step ≡ editor_after page (kept_after k step)
 editor_after-more page k (Edit commands) sound good = λ i. record {
-  screen = (state_after_all-state (remaining page k) commands (remaining_sound page k sound) good
+  screen = (sym (state-after_all (remaining page k) commands (remaining_sound page k sound) good)
       ∙ ap state (sym (remaining-edit page k commands))) i;
   past = states_before-edit page k commands i;
   future = sym (states_again-edit page k commands) i;
 }
-editor_after-more page k (Turn turn) sound good = turn_more page k turn sound
+editor_after-more page k (UndoRedo which) sound good = undo_redo_more page k which sound
 
-turn_sound : (page : List Command) (k : KeptEdits) (turn : TurnKind) → AreSound page k
-    → AreSound page (kept_after k (Turn turn))
-turn_sound page k turn sound = by_finding (finds_nothing turn k) refl
+turn_sound : (page : List Command) (k : KeptEdits) (which : UndoRedoKind) → AreSound page k
+    → AreSound page (kept_after k (UndoRedo which))
+turn_sound page k which sound = by_finding (finds_nothing which k) refl
   where
-    by_finding : (none : Bool) → finds_nothing turn k ≡ none → AreSound page (kept_after k (Turn turn))
-    by_finding true is = subst (AreSound page) (sym (kept-idle k turn is)) sound
-    by_finding false is = subst (AreSound page) (sym (kept-turned k turn is)) (AreSound-turn page k turn sound is)
+    by_finding : (none : Bool) → finds_nothing which k ≡ none → AreSound page (kept_after k (UndoRedo which))
+    by_finding true is = subst (AreSound page) (sym (kept-idle k which is)) sound
+    by_finding false is = subst (AreSound page) (sym (kept-moved k which is)) (AreSound-undo_redo page k which sound is)
 
 more_sound : (page : List Command) (k : KeptEdits) (step : Step) → AreSound page k → IsValidStep step
     → AreSound page (kept_after k step)
@@ -126,7 +116,7 @@ more_sound page k (Edit commands) sound good =
     (subst AllValid (sym (remaining-edit page k commands))
     (AllByRecursion-append IsValidCommand (remaining page k) commands (remaining_sound page k sound) good))
     tt (omega (arith, sound.within, length-append k.edits (commands ∷ [])))
-more_sound page k (Turn turn) sound good = turn_sound page k turn sound
+more_sound page k (UndoRedo which) sound good = turn_sound page k which sound
 
 -- ---- all lines
 

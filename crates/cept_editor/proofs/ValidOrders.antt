@@ -26,7 +26,7 @@ signs_valid (a ∷ text) e =
     (inl (low, omega (arith, high)), signs_valid text parts.1)
 
 pub order_valid : (bytes : List ℕ) (span : Span) (o : Order) → IsSoundOrder bytes span o → IsValidStep (order_step bytes o)
-order_valid bytes span (orders.Turn turn) s = tt
+order_valid bytes span (orders.UndoRedo which) s = tt
 order_valid bytes span (orders.One brief) s = (s, tt)
 order_valid bytes span (orders.Text place) s = (omega arith, signs_valid bytes s.1)
 order_valid bytes span (orders.Raw place) s = s.1.valid

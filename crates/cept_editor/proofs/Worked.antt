@@ -6,7 +6,7 @@ use Rattle.cept_codes.specs.declared.line_reason.LineReason.{LineReason}
 use Rattle.cept_codes.specs.declared.command.Command.TheVariants as commands
 use Rattle.cept_codes.specs.declared.command.C1Set.TheVariants.{Serial, Parallel}
 use Rattle.cept_codes.specs.declared.line_reason.LineReason.TheVariants as reasons
-use Rattle.cept_editor.specs.Meaning.{Step, Turn, TakeBack, MakeAgain, Edit, hex_bytes, line_meaning}
+use Rattle.cept_editor.specs.Meaning.{Step, UndoRedo, Undo, Redo, Edit, hex_bytes, line_meaning}
 use Rattle.cept_words.specs.Faults.{fault_from}
 use Rattle.cept_editor.specs.Script.{edits, first_fault, edits_from}
 use Rattle.cept_editor.specs.Table.{row_of}
@@ -51,8 +51,8 @@ each_word : mean (
     ∷ (codes "implicit", one (commands.Implicit true))
     ∷ (codes "explicit", one (commands.Implicit false))
     ∷ (codes "revision 2", one (commands.Revision 2))
-    ∷ (codes "undo", Ok (Some (Turn TakeBack)))
-    ∷ (codes "redo", Ok (Some (Turn MakeAgain)))
+    ∷ (codes "undo", Ok (Some (UndoRedo Undo)))
+    ∷ (codes "redo", Ok (Some (UndoRedo Redo)))
     ∷ ([], Ok None)
     ∷ (codes "# up", Ok None) ∷ [])
 unfolding line_meaning row_of
@@ -102,7 +102,7 @@ abbrev script : List ℕ
 script = codes "# a" ++ 0x0A ∷ codes "up" ++ 0x0A ∷ 0x0A ∷ codes "undo"
 
 edits-of_script : edits script
-    ≡ record { line = 2; step = Edit (commands.Up ∷ []) } ∷ record { line = 4; step = Turn TakeBack } ∷ []
+    ≡ record { line = 2; step = Edit (commands.Up ∷ []) } ∷ record { line = 4; step = UndoRedo Undo } ∷ []
 unfolding line_meaning row_of edits_from
 edits-of_script = refl
 

@@ -14,38 +14,38 @@ use Rattle.cept_redraw.specs.Renewed.{rows_renewed}
 use Rattle.cept_repaint.specs.InTurn.{rows_in_reach_of_all, rows_renewed_by_all, state_after_all}
 use Rattle.cept_undo.specs.Past.{most_kept, nearest, handed_on}
 use Rattle.cept_editor.specs.Kept.{EditorState}
-use Rattle.cept_editor.specs.Meaning.{Step, TurnKind, Turn, TakeBack, MakeAgain, Edit}
+use Rattle.cept_editor.specs.Meaning.{Step, UndoRedoKind, UndoRedo, Undo, Redo, Edit}
 
--- how many rows an edit line may resolve: those that its commands may, and all 24 at a turn
+-- how many rows an edit line may resolve: those that its commands may, and all 24 at an undo or a redo
 abbrev pub rows_of_step : State → Step → ℕ
-rows_of_step s (Turn turn) = 24
+rows_of_step s (UndoRedo which) = 24
 rows_of_step s (Edit commands) = rows_in_reach_of_all s commands
 
 -- ---- edit lines by the states alone
 
--- an editor after a turn: an undo brings the latest state of its past and leaves the others, and the state before it comes
--- first in its future; a redo the other way round. Where there is none, the editor stays
-abbrev pub editor_after_turn : EditorState → TurnKind → EditorState
-editor_after_turn e TakeBack = record {
+-- an editor after an undo, which brings the latest state of its past and leaves the others, and the state before it comes
+-- first in its future; after a redo, the other way round. Where there is none, the editor stays
+abbrev pub editor_after_undo_redo : EditorState → UndoRedoKind → EditorState
+editor_after_undo_redo e Undo = record {
   screen = nearest e.past e.screen;
   past = drop 1 e.past;
   future = handed_on e.past e.screen e.future;
 }
-editor_after_turn e MakeAgain = record {
+editor_after_undo_redo e Redo = record {
   screen = nearest e.future e.screen;
   past = handed_on e.future e.screen e.past;
   future = drop 1 e.future;
 }
 
 -- an editor after an edit line: the state before an edit comes first in its past, no more stay than may be kept, and none
--- can be brought again
+-- can be redone
 abbrev pub editor_after_step : EditorState → Step → EditorState
 editor_after_step e (Edit commands) = record {
   screen = state_after_all e.screen commands;
   past = take most_kept (e.screen ∷ e.past);
   future = [];
 }
-editor_after_step e (Turn turn) = editor_after_turn e turn
+editor_after_step e (UndoRedo which) = editor_after_undo_redo e which
 
 -- an editor after these edit lines, in order
 unfoldable pub editor_after_steps : EditorState → List Step → EditorState
@@ -61,15 +61,15 @@ changes_in_turn s (c ∷ cs) =
 -- what an edit line changes
 abbrev pub changes_of_step : EditorState → Step → List (Place × Look)
 changes_of_step e (Edit commands) = changes_in_turn e.screen commands
-changes_of_step e (Turn turn) =
-    changes_between (looks_of (core_of e.screen)) (looks_of (core_of (editor_after_turn e turn).screen))
+changes_of_step e (UndoRedo which) =
+    changes_between (looks_of (core_of e.screen)) (looks_of (core_of (editor_after_undo_redo e which).screen))
 
 -- what an edit line made of an editor, whatever it stands after
 pub record HasMade {X E : Type 0} (step : Step) (old : EditorState) (result : Result X E) (new : EditorState) : Type 0 where
   -- all of it, where the sink didn't fail
   pub whole : OnOk result (new ≡ editor_after_step old step)
-  -- a turn is made also where the sink fails at its lines
-  pub turned : (turn : TurnKind) → step ≡ Turn turn → new ≡ editor_after_turn old turn
+  -- an undo or a redo is made also where the sink fails at its lines
+  pub undo_redo : (which : UndoRedoKind) → step ≡ UndoRedo which → new ≡ editor_after_undo_redo old which
   -- and of an edit then as much is kept as was applied
   pub past : new.past ≡ (editor_after_step old step).past
   pub future : new.future ≡ (editor_after_step old step).future
@@ -95,9 +95,9 @@ pub record MarksLast {X E : Type 0} (commands : List Command) (old : State) (res
   pub shown : OnErr result
       (changes_between (looks_of (core_of (state_after_all old earlier))) (looks_of (core_of new)) ≢ [])
 
--- the marks are those of the last command of an edit that was applied, or of a turn
+-- the marks are those of the last command of an edit that was applied, or of an undo or a redo
 abbrev pub MarksStep : {X E : Type 0} → Step → State → Result X E → State → List Bool → Type 0
-MarksStep (Turn turn) old result new marks = marks ≡ differences (looks_of (core_of old)) (looks_of (core_of new))
+MarksStep (UndoRedo which) old result new marks = marks ≡ differences (looks_of (core_of old)) (looks_of (core_of new))
 MarksStep (Edit commands) old result new marks = MarksLast commands old result new marks
 
 -- ---- rows resolved
@@ -113,8 +113,8 @@ pub record ResolvesRenewed {X E : Type 0} (commands : List Command) (old : State
   pub applied : new ≡ state_after_all old done
   pub least : from + rows_renewed_by_all old done ≤ to
 
--- no fewer than those commands of an edit renew that were applied, or than look otherwise after a turn
+-- no fewer than those commands of an edit renew that were applied, or than look otherwise after an undo or a redo
 abbrev pub ResolvesStep : {X E : Type 0} → Step → State → Result X E → State → ℕ → ℕ → Type 0
-ResolvesStep (Turn turn) old result new from to =
+ResolvesStep (UndoRedo which) old result new from to =
     from + rows_renewed [] (looks_of (core_of old)) (looks_of (core_of new)) ≤ to
 ResolvesStep (Edit commands) old result new from to = ResolvesRenewed commands old result new from to

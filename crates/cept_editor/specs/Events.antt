@@ -1,6 +1,6 @@
--- The events of a run: what is done at one item of a page, at one command of an edit, at a turn, or at the end. Each has
--- the commands that remain before it and after it, and a text. The texts are put, and the changes from the one to the
--- other are painted. This project's own.
+-- The events of a run: what is done at one item of a page, at one command of an edit, at an undo or a redo, or at the end.
+-- Each has the commands that remain before it and after it, and a text. The texts are put, and the changes from the one to
+-- the other are painted. This project's own.
 use Rattle.std.specs.Prelude.{ℕ, List}
 use Rattle.std.specs.List.{flat_map}
 use Rattle.cept_codes.specs.declared.command.Command.{Command}

@@ -3,6 +3,7 @@
 use Rattle.std.specs.Prelude.{ℕ, ◌+◌, ◌*◌, ◌<◌, Bool, ◌==◌, List, [], ◌∷◌, map, length, drop, Option, Some, None}
 use Rattle.std.specs.Prelude.{Result, Ok, Err, if◌then◌else◌}
 use Rattle.std.specs.List.{list_all, list_any, AllByRecursion}
+use Rattle.std.specs.Option.{option_map, option_transpose, option_zip}
 use Rattle.hex.specs.Hex.{hex_digit_value}
 use Rattle.cept_codes.specs.Command.{IsValidCommand}
 use Rattle.cept_codes.specs.declared.command.Command.{Command}
@@ -12,28 +13,28 @@ use Rattle.cept_codes.specs.declared.line_reason.LineReason.TheVariants as reaso
 use Rattle.cept_parser.specs.Bytes.{is_between}
 use Rattle.cept_parser.specs.Items.{is_refusal, closed_items, commands}
 use Rattle.cept_words.specs.Lines.{number, words}
-pub use Rattle.cept_editor.specs.declared.turn.Turn.{Turn as TurnKind}
-pub use Rattle.cept_editor.specs.declared.turn.Turn.TheVariants.{TakeBack, MakeAgain}
-use Rattle.cept_editor.specs.Table.{Row, row_of, Alone, One, Two, Four, Text, Raw, Undo, Redo}
+pub use Rattle.cept_editor.specs.declared.undo_redo.UndoRedo.{UndoRedo as UndoRedoKind}
+pub use Rattle.cept_editor.specs.declared.undo_redo.UndoRedo.TheVariants.{Undo, Redo}
+use Rattle.cept_editor.specs.Table.{Row, row_of, Alone, One, Two, Four, Text, Raw, Undo as UndoRow, Redo as RedoRow}
 
--- what an edit line does: it is a turn, or an edit of these commands
+-- what an edit line does: it is an undo or a redo, or an edit of these commands
 pub data Step : Type 0 where
-  Turn : TurnKind → Step
+  UndoRedo : UndoRedoKind → Step
   Edit : List Command → Step
 
 -- each command of a step is valid
 abbrev pub IsValidStep : Step → Type 0
-IsValidStep (Turn turn) = Unit {0}
+IsValidStep (UndoRedo which) = Unit {0}
 IsValidStep (Edit cs) = AllByRecursion IsValidCommand cs
 
 -- an edit has a command
 abbrev pub HasCommand : Step → Type 0
-HasCommand (Turn turn) = Unit {0}
+HasCommand (UndoRedo which) = Unit {0}
 HasCommand (Edit cs) = 0 < length cs
 
--- how many commands an edit has; a turn counts as one
+-- how many commands an edit has; an undo or a redo counts as one
 abbrev pub command_count : Step → ℕ
-command_count (Turn turn) = 1
+command_count (UndoRedo which) = 1
 command_count (Edit cs) = length cs
 
 -- what a number decides, where the word is one
@@ -84,16 +85,13 @@ abbrev pub byte_of : Option ℕ → Option ℕ → Option ℕ
 byte_of (Some high) (Some low) = Some (high * 16 + low)
 byte_of _ _ = None
 
--- a byte before others, where all can be read
-abbrev pub with_byte : Option ℕ → Option (List ℕ) → Option (List ℕ)
-with_byte (Some a) (Some bytes) = Some (a ∷ bytes)
-with_byte _ _ = None
-
 -- the bytes of pairs of hexadecimal digits of either case
 unfoldable pub hex_bytes : List ℕ → Option (List ℕ)
 hex_bytes [] = Some []
 hex_bytes (high ∷ []) = None
-hex_bytes (high ∷ low ∷ more) = with_byte (byte_of (hex_digit_value high) (hex_digit_value low)) (hex_bytes more)
+hex_bytes (high ∷ low ∷ more) =
+    option_map (λ read. read.0 ∷ read.1)
+    (option_zip (byte_of (hex_digit_value high) (hex_digit_value low)) (hex_bytes more))
 
 -- an item of the bytes is refused
 abbrev pub bytes_have_refusal : List ℕ → Bool
@@ -119,20 +117,16 @@ step_by (Some (Two fits command)) more rest = two fits command more
 step_by (Some (Four fits command)) more rest = four fits command more
 step_by (Some Text) more rest = text rest
 step_by (Some Raw) more rest = raw more
-step_by (Some Undo) more rest = alone (Turn TakeBack) more
-step_by (Some Redo) more rest = alone (Turn MakeAgain) more
+step_by (Some UndoRow) more rest = alone (UndoRedo Undo) more
+step_by (Some RedoRow) more rest = alone (UndoRedo Redo) more
 
 -- what an edit line means, cut into words
 abbrev pub step_of_words : List (List ℕ) → List ℕ → Result Step LineReason
 step_of_words [] line = Err reasons.UnknownWord
 step_of_words (word ∷ more) line = step_by (row_of word) more (drop (length word + 1) line)
 
--- a result that is a step
-abbrev pub some_step : Result Step LineReason → Result (Option Step) LineReason
-some_step (Ok step) = Ok (Some step)
-some_step (Err reason) = Err reason
-
 -- what a line means: an empty line and one that begins with 2/3 stand for nothing
 unfoldable pub line_meaning : List ℕ → Result (Option Step) LineReason
 line_meaning [] = Ok None
-line_meaning (a ∷ more) = if a == 0x23 then Ok None else some_step (step_of_words (words (a ∷ more)) (a ∷ more))
+line_meaning (a ∷ more) =
+    if a == 0x23 then Ok None else option_transpose (Some (step_of_words (words (a ∷ more)) (a ∷ more)))

@@ -15,7 +15,7 @@ use Rattle.cept_editor.specs.declared.brief.Brief.TheVariants as briefs
 use Rattle.cept_editor.specs.declared.order.Order.{Order}
 use Rattle.cept_editor.specs.declared.order.Order.TheVariants as orders
 use Rattle.cept_editor.specs.declared.places.Span.{Span}
-use Rattle.cept_editor.specs.Meaning.{Step, Turn, Edit, HasCommand, is_sign, hex_bytes}
+use Rattle.cept_editor.specs.Meaning.{Step, UndoRedo, Edit, HasCommand, is_sign, hex_bytes}
 
 -- the command of a brief one
 abbrev pub command_of : Brief → Command
@@ -53,7 +53,7 @@ text_commands text = commands.LockLeft 0 ∷ map commands.Graphic text
 
 -- the step of an order, where these bytes stand at its place
 abbrev pub order_step : List ℕ → Order → Step
-order_step bytes (orders.Turn turn) = Turn turn
+order_step bytes (orders.UndoRedo which) = UndoRedo which
 order_step bytes (orders.One brief) = Edit (command_of brief ∷ [])
 order_step bytes (orders.Text span) = Edit (text_commands bytes)
 order_step bytes (orders.Raw span) = Edit (commands_of_bytes (raw_bytes bytes))
@@ -77,7 +77,7 @@ pub record AreSoundDigits (digits : List ℕ) : Type 0 where
 -- an order whose commands are valid, and can be given one after the other, where these bytes stand at this place and it
 -- is the order's; hexadecimal digits give one at least
 abbrev pub IsSoundOrder : List ℕ → Span → Order → Type 0
-IsSoundOrder bytes place (orders.Turn turn) = Unit {0}
+IsSoundOrder bytes place (orders.UndoRedo which) = Unit {0}
 IsSoundOrder bytes place (orders.One brief) = IsValidCommand (command_of brief)
 IsSoundOrder bytes place (orders.Text span) = (span ≡ place) × (list_all is_sign bytes ≡ true)
 IsSoundOrder bytes place (orders.Raw span) =

@@ -20,7 +20,7 @@ bytes_at script span = slice_range script span.start span.end
 
 -- the place of an order's bytes, the script's start where it has none
 abbrev pub span_of : Order → Span
-span_of (orders.Turn turn) = record { start = 0; end = 0 }
+span_of (orders.UndoRedo which) = record { start = 0; end = 0 }
 span_of (orders.One brief) = record { start = 0; end = 0 }
 span_of (orders.Text span) = span
 span_of (orders.Raw span) = span

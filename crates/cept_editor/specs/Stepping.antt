@@ -12,7 +12,7 @@ use Rattle.cept_editor.specs.declared.editor.Done.TheVariants as answers
 use Rattle.cept_editor.specs.Events.{Event}
 use Rattle.cept_editor.specs.Kept.{KeptEdits, finds_nothing, kept_after, remaining, EditorState, StandsAfter}
 use Rattle.cept_editor.specs.Made.{Output, AreMade, AreCutOff}
-use Rattle.cept_editor.specs.Meaning.{Step, TurnKind, Turn, TakeBack, MakeAgain, Edit}
+use Rattle.cept_editor.specs.Meaning.{Step, UndoRedoKind, UndoRedo, Undo, Redo, Edit}
 
 -- from these commands to those; its change lines have this number, where they are listed
 abbrev pub event_from : Bool → ℕ → List Command → List Command → Event
@@ -28,7 +28,7 @@ edit_events listed line earlier commands =
     map (λ numbered. event_from listed line (earlier ++ take numbered.0 commands)
     (earlier ++ take (numbered.0 + 1) commands)) (enumerate_from 0 commands)
 
--- a turn that finds nothing: it changes nothing
+-- an undo or a redo that finds nothing: it changes nothing
 abbrev pub nothing_event : Bool → ℕ → List Command → Event
 nothing_event listed line commands = record {
   before = commands;
@@ -36,25 +36,25 @@ nothing_event listed line commands = record {
   text = if listed then nothing_line line else [];
 }
 
--- the events of an edit line, after a page and these kept edits: one for each command of an edit, and one for a turn
+-- the events of an edit line, after a page and these kept edits: one for each command, or one for an undo or a redo
 abbrev pub line_events : Bool → ℕ → List Command → KeptEdits → Step → List Event
 line_events listed line page k (Edit commands) = edit_events listed line (remaining page k) commands
-line_events listed line page k (Turn turn) =
-    (if finds_nothing turn k then nothing_event listed line (remaining page k)
-    else event_from listed line (remaining page k) (remaining page (kept_after k (Turn turn)))) ∷ []
+line_events listed line page k (UndoRedo which) =
+    (if finds_nothing which k then nothing_event listed line (remaining page k)
+    else event_from listed line (remaining page k) (remaining page (kept_after k (UndoRedo which)))) ∷ []
 
--- the states that turns of a kind lead to, one after the other
-abbrev pub states_ahead : EditorState → TurnKind → List State
-states_ahead e TakeBack = e.past
-states_ahead e MakeAgain = e.future
+-- the states to which undo or redo leads, one after the other
+abbrev pub states_ahead : EditorState → UndoRedoKind → List State
+states_ahead e Undo = e.past
+states_ahead e Redo = e.future
 
--- the first commands of an edit; a turn is one step
+-- the first commands of an edit; an undo or a redo is one step
 abbrev pub first_of : ℕ → Step → Step
 first_of n (Edit commands) = Edit (take n commands)
-first_of n (Turn turn) = Turn turn
+first_of n (UndoRedo which) = UndoRedo which
 
--- the sink failed at one of its events. The commands up to that one are applied, and they are kept as an edit; a turn has
--- been made
+-- the sink failed at one of its events. The commands up to that one are applied, and they are kept as an edit; an undo or a
+-- redo has been made
 pub record IsCutOff (listed : Bool) (line : ℕ) (step : Step) (page : List Command) (k : KeptEdits)
     (new : EditorState) (before after : Output) : Type 0 where
   pub cut : AreCutOff (line_events listed line page k step) before after
@@ -69,9 +69,9 @@ pub record GoesOn {E : Type 0} (listed : Bool) (line : ℕ) (step : Step) (old :
   -- and exactly the line's events were made
   pub made : result ≡ Ok answers.Done → (page : List Command) (k : KeptEdits) → StandsAfter old page k
       → AreMade (line_events listed line page k step) before after
-  -- Nothing is answered exactly at an undo before which no edit can be taken back, and at a redo before which none is
-  -- undone; then nothing was touched
-  pub nothing : (result ≡ Ok answers.Nothing) ↔ ((turn : TurnKind) × (step ≡ Turn turn) × (states_ahead old turn ≡ []))
+  -- Nothing is answered exactly at an undo before which no edit can be undone, and at a redo before which none is undone;
+  -- then nothing was touched
+  pub nothing : (result ≡ Ok answers.Nothing) ↔ ((which : UndoRedoKind) × (step ≡ UndoRedo which) × (states_ahead old which ≡ []))
   pub idle : result ≡ Ok answers.Nothing → (new ≡ old) × (after ≡ before)
   -- or the sink failed on the way
   pub cut : OnErr result ((page : List Command) (k : KeptEdits) → StandsAfter old page k

@@ -8,7 +8,7 @@ ghost use Rattle.cept_editor.specs.Places.{step_at, IsPlacedOrder};
 use crate::decoding::Decoding;
 use crate::order::Order;
 use crate::places::bytes_at;
-use crate::turn::Turn;
+use crate::undo_redo::UndoRedo;
 use cept_codes::Command;
 use std::marker::Model;
 
@@ -60,8 +60,8 @@ impl<'a> Commands<'a> {
 /// What an edit does.
 #[derive(Drop)]
 pub enum Edit<'a> {
-    /// It takes back the last kept edit, or makes the last undone one again.
-    Turn(Turn),
+    /// It undoes the last kept edit, or redoes the last undone one.
+    UndoRedo(UndoRedo),
     /// It applies these commands.
     Commands(Commands<'a>),
 }
@@ -75,7 +75,7 @@ impl<'a> Edit<'a> {
         ensures some { HasCommand (edit_step result) }
     {
         match order {
-            Order::Turn(turn) => Edit::Turn(turn),
+            Order::UndoRedo(which) => Edit::UndoRedo(which),
             Order::One(brief) => Edit::Commands(Commands {
                 first: Some(brief.command()),
                 text: &[],

@@ -1,4 +1,4 @@
-//! A screen whose edits are made line by line, and can be taken back.
+//! A screen whose edits are made line by line, and can be undone and redone.
 
 ghost use Rattle.std.specs.Prelude.{◌≡◌, ◌≢◌, ◌+◌, ◌*◌, ◌<◌, ◌≤◌, ◌↔◌, [], false, length};
 ghost use Rattle.std.specs.Prelude.{Ok, OnErr, IfOk, slice_index_or};
@@ -10,22 +10,22 @@ ghost use Rattle.cept_profile.specs.State.{core_of, state};
 ghost use Rattle.cept_redraw.specs.Renewed.{rows_renewed};
 ghost use Rattle.cept_repaint.specs.Applied.{IsApplied};
 ghost use Rattle.cept_undo.specs.Past.{IsWithinEdit, StaysBegun, future};
-ghost use Rattle.cept_undo.specs.Turned.{PaintsTurn};
+ghost use Rattle.cept_undo.specs.UndoRedo.{PaintsUndoRedo};
 ghost use Rattle.cept_editor.specs.Applying.{HasMade, MarksLast, MarksStep};
 ghost use Rattle.cept_editor.specs.inside.Applying.{AppliesOne, AppliesAll};
 ghost use Rattle.cept_editor.specs.Applying.{PutsListed, ResolvesRenewed, ResolvesStep};
 ghost use Rattle.cept_editor.specs.inside.Applying.{HoldsSame};
-ghost use Rattle.cept_editor.specs.Applying.{editor_after_turn, rows_of_step};
+ghost use Rattle.cept_editor.specs.Applying.{editor_after_undo_redo, rows_of_step};
 ghost use Rattle.cept_repaint.specs.InTurn.{rows_in_reach_of_all};
 ghost use Rattle.cept_editor.specs.Kept.{none_kept, StandsAfter};
 ghost use Rattle.cept_editor.specs.Made.{output_of};
-ghost use Rattle.cept_editor.specs.Meaning.{Edit as EditOf, Turn as TurnOf, command_count};
+ghost use Rattle.cept_editor.specs.Meaning.{Edit as EditOf, UndoRedo as UndoRedoOf, command_count};
 ghost use Rattle.cept_editor.specs.Script.{EditLine};
 ghost use Rattle.cept_editor.specs.Stepping.{GoesOn, states_ahead};
 
 use crate::commands::{Commands, Edit};
 use crate::script::Script;
-use crate::turn::Turn;
+use crate::undo_redo::UndoRedo;
 use cept_codes::{Command, NoMemory};
 use cept_outside::{Sink, Steps, WriteFault};
 use cept_repaint::{Glass, Marks, Screen};
@@ -40,7 +40,7 @@ use std::sync::ledger::Ledger;
 pub enum Done {
     /// It was made.
     Done,
-    /// It was an undo, and no edit was kept that it could take back; or a redo, and no edit was undone.
+    /// It was an undo, and no edit was kept; or a redo, and no edit was undone.
     Nothing,
 }
 
@@ -117,7 +117,7 @@ fn apply_commands<G: Glass, T: Sink, L: Ledger>(
     Ok(())
 }
 
-/// A screen, and the last edits of it, of which up to 64 can be taken back and then made again. The
+/// A screen, and the last edits of it, of which up to 64 can be undone and then redone. The
 /// commands of a page can't.
 #[derive(Drop)]
 pub struct Editor {
@@ -156,7 +156,7 @@ impl Editor {
 
     /// Applies a command of a page: marks exactly the places whose look changes, and paints each of
     /// them once, in reading order, with its new look. It is no edit: before the first edit no undo
-    /// takes it back. After it no edit is undone. Takes no memory.
+    /// reaches it. After it no edit is undone. Takes no memory.
     pub fn page<G: Glass, L: Ledger>(
         &mut self,
         command: &Command,
@@ -176,10 +176,10 @@ impl Editor {
 
     /// Makes edit k of a script, counted from 0. The commands of an edit are applied one after the
     /// other, each is painted, and then its change lines are put, where `listed` holds. The edit is
-    /// kept, where 64 are kept the oldest is dropped, and none stays undone. An undo takes the last
-    /// kept edit back in one step, paints what changes, and then puts its change lines where `listed`
-    /// holds; where no edit is kept nothing happens. A redo makes the last undone edit again in the
-    /// same way; where none is undone nothing happens. Takes no memory.
+    /// kept, where 64 are kept the oldest is dropped, and none stays undone. An undo undoes the
+    /// last kept edit in one step, paints what changes, and then puts its change lines where `listed`
+    /// holds; where no edit is kept nothing happens. A redo redoes the last undone edit in the same
+    /// way; where none is undone nothing happens. Takes no memory.
     ///
     /// # Errors
     ///
@@ -222,7 +222,7 @@ impl Editor {
             listed,
         };
         match script.edit(k) {
-            Edit::Turn(turn) => self.turn(turn, glass, steps, &mut listing),
+            Edit::UndoRedo(which) => self.undo_redo(which, glass, steps, &mut listing),
             Edit::Commands(commands) => self.edit(commands, glass, steps, &mut listing),
         }
     }
@@ -268,47 +268,47 @@ impl Editor {
         Ok(Done::Done)
     }
 
-    /// Turns the screen to the state before the last kept edit, or after the last undone one. Answers
-    /// whether there was one.
-    fn turn_screen<G: Glass, L: Ledger>(
+    /// Undoes the last kept edit, or redoes the last undone one, on the screen. Answers whether there
+    /// was one.
+    fn undo_redo_screen<G: Glass, L: Ledger>(
         &mut self,
-        turn: Turn,
+        which: UndoRedo,
         glass: &mut G,
         marks: &mut Marks,
         steps: &mut Steps<L>,
     ) -> bool
-        ensures turned { self.new ≡ editor_after_turn self.old turn }
-        ensures paints { PaintsTurn self.old.screen self.new.screen marks.new (G.state glass.old)
+        ensures moved { self.new ≡ editor_after_undo_redo self.old which }
+        ensures paints { PaintsUndoRedo self.old.screen self.new.screen marks.new (G.state glass.old)
             (G.state glass.new) steps.old steps.new }
-        ensures nothing { (result ≡ false) ↔ (states_ahead self.old turn ≡ []) }
+        ensures nothing { (result ≡ false) ↔ (states_ahead self.old which ≡ []) }
         ensures unpainted { result ≡ false → glass.new ≡ glass.old }
         ensures unticked { result ≡ false → steps.new ≡ steps.old }
     {
-        match turn {
-            Turn::TakeBack => match self.undo.undo(&mut self.screen, glass, marks, steps) {
+        match which {
+            UndoRedo::Undo => match self.undo.undo(&mut self.screen, glass, marks, steps) {
                 Undone::Undone => true,
                 Undone::Nothing => false,
             },
-            Turn::MakeAgain => match self.undo.redo(&mut self.screen, glass, marks, steps) {
+            UndoRedo::Redo => match self.undo.redo(&mut self.screen, glass, marks, steps) {
                 Redone::Redone => true,
                 Redone::Nothing => false,
             },
         }
     }
 
-    /// Takes the last kept edit back, or makes the last undone one again, and puts its lines where
-    /// they are listed.
-    fn turn<G: Glass, T: Sink, L: Ledger>(
+    /// Undoes the last kept edit, or redoes the last undone one, and puts its lines where they are
+    /// listed.
+    fn undo_redo<G: Glass, T: Sink, L: Ledger>(
         &mut self,
-        turn: Turn,
+        which: UndoRedo,
         glass: &mut G,
         steps: &mut Steps<L>,
         listing: &mut Listing<'_, T>,
     ) -> Result<Done, WriteFault>
-        ensures goes_on { GoesOn listing.old.listed listing.old.line (TurnOf turn) self.old
+        ensures goes_on { GoesOn listing.old.listed listing.old.line (UndoRedoOf which) self.old
             (output_of (T.state listing.old.sink.now) (G.state glass.old)) result self.new
             (output_of (T.state listing.new.sink.now) (G.state glass.new)) }
-        ensures made { HasMade (TurnOf turn) self.old result self.new }
+        ensures made { HasMade (UndoRedoOf which) self.old result self.new }
         ensures puts { PutsListed listing.old.listed (T.state listing.old.sink.now) result
             (T.state listing.new.sink.now) }
         ensures marks { listing.new.marks.now ≡ differences (looks_of (core_of self.old.screen))
@@ -320,7 +320,7 @@ impl Editor {
         ensures borrows { HoldsSame listing.old.sink.ghost_name listing.old.marks.ghost_name
             listing.new.sink.ghost_name listing.new.marks.ghost_name }
     {
-        if !self.turn_screen(turn, glass, listing.marks, steps) {
+        if !self.undo_redo_screen(which, glass, listing.marks, steps) {
             return Ok(Done::Nothing);
         }
         let label = u64::from(listing.line);
@@ -341,7 +341,7 @@ impl Editor {
         &self.screen
     }
 
-    /// How many edits can be taken back, at most 64.
+    /// How many edits can be undone, at most 64.
     pub fn kept(&self) -> u32
         ensures edits { result ≡ length self.now.past }
         ensures at_most_64 { result ≤ 64 }
@@ -349,7 +349,7 @@ impl Editor {
         self.undo.kept()
     }
 
-    /// How many edits are undone and can be made again, at most 64.
+    /// How many edits are undone and can be redone, at most 64.
     pub fn undone(&self) -> u32
         ensures edits { result ≡ length self.now.future }
         ensures at_most_64 { result ≤ 64 }

@@ -20,7 +20,7 @@ ghost use Rattle.cept_editor.specs.Kept.{KeptEdits, none_kept, kept_after, kept,
 ghost use Rattle.cept_editor.specs.Kept.{states_before, states_again, EditorState, StandsAfter};
 ghost use Rattle.cept_editor.specs.Kept.{editor_after};
 ghost use Rattle.cept_editor.specs.Made.{Output, AreStill, ArePainted, IsMade, AreMade, AreCutOff};
-ghost use Rattle.cept_editor.specs.Meaning.{HasCommand, IsValidStep, Step, Turn, TurnKind};
+ghost use Rattle.cept_editor.specs.Meaning.{HasCommand, IsValidStep, Step, UndoRedo, UndoRedoKind};
 ghost use Rattle.cept_editor.specs.Meaning.{line_meaning};
 ghost use Rattle.cept_editor.specs.Script.{IsFirstFault, edit_of, edits, first_fault, numbered_line};
 ghost use Rattle.cept_editor.specs.Stepping.{line_events, states_ahead};
@@ -99,10 +99,9 @@ pub fn one_more_text_is_put()
         → AreCutOff (es ++ e ∷ []) a c }
 {}
 
-/// The edits that are kept after more edit lines. Those that can be taken back and those that are
-/// undone are together no more than may be kept. Before the first line all commands that remain are
-/// those of the page, and nothing can be brought back or again: so an editor stands that has applied
-/// these alone.
+/// The edits that are kept after more edit lines. Those that can be undone and those that are undone
+/// are together no more than may be kept. Before the first line all commands that remain are those of
+/// the page, and nothing can be undone or redone: so an editor stands that has applied these alone.
 pub fn edit_lines_go_on()
     ensures none { kept [] ≡ none_kept }
     ensures more { (steps : List Step) (step : Step)
@@ -134,8 +133,8 @@ pub fn edit_lines_by_their_states()
     ensures paints { (listed : Bool) (line : ℕ) (old : EditorState) (page : List Command)
         (k : KeptEdits) (step : Step) → StandsAfter old page k → IsValidStep step
         → paints (line_events listed line page k step) ≡ changes_of_step old step }
-    ensures idle { (editor : EditorState) (turn : TurnKind) → states_ahead editor turn ≡ []
-        → editor_after_step editor (Turn turn) ≡ editor }
+    ensures idle { (editor : EditorState) (which : UndoRedoKind) → states_ahead editor which ≡ []
+        → editor_after_step editor (UndoRedo which) ≡ editor }
 {}
 
 /// What the events of an edit line change, painted over the grid before it, gives the grid after

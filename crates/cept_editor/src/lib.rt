@@ -1,5 +1,5 @@
 //! Editing scripts, their lines and the commands of each; and the editor, which makes the edits on a
-//! screen, takes them back and makes them again. It knows no files, and of a page its commands alone.
+//! screen, undoes and redoes them. It knows no files, and of a page its commands alone.
 #![tactic(auto)]
 
 mod brief;
@@ -15,7 +15,7 @@ mod order;
 mod places;
 mod script;
 mod table;
-mod turn;
+mod undo_redo;
 
 pub use commands::{Commands, Edit};
 pub use editor::{Done, Editor};
@@ -27,4 +27,4 @@ pub use law::{
 };
 pub use line::read_line;
 pub use script::{Script, ScriptFault};
-pub use turn::Turn;
+pub use undo_redo::UndoRedo;

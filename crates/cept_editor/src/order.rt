@@ -2,7 +2,7 @@ ghost use Rattle.std.specs.Prelude.{◌≡◌, ◌∷◌, ℕ, List, [], true, I
 ghost use Rattle.std.specs.List.{list_all};
 ghost use Rattle.cept_codes.specs.Command.{IsValidCommand};
 ghost use Rattle.cept_words.specs.Words.{words_after, bytes_after};
-ghost use Rattle.cept_editor.specs.Meaning.{Turn as TurnOf, Edit, ranged, alone, is_sign};
+ghost use Rattle.cept_editor.specs.Meaning.{UndoRedo as UndoRedoOf, Edit, ranged, alone, is_sign};
 ghost use Rattle.cept_editor.specs.Meaning.{text, raw, bytes_step, hex_bytes};
 ghost use Rattle.cept_editor.specs.Order.{command_of, order_step};
 ghost use Rattle.cept_editor.specs.inside.Order.{step_meant, IsPlainOrder};
@@ -12,15 +12,15 @@ use crate::brief::Brief;
 use crate::digits::{are_digits, has_refusal};
 use crate::number::is_between;
 use crate::places::{Span, place_before};
-use crate::turn::Turn;
+use crate::undo_redo::UndoRedo;
 use cept_codes::LineReason;
 use cept_words::{next_word, one_word};
 
 /// What an edit line asks for.
 #[derive(Clone, Copy)]
 pub(crate) enum Order {
-    /// To take back the last kept edit, or to make the last undone one again.
-    Turn(Turn),
+    /// To undo the last kept edit, or to redo the last undone one.
+    UndoRedo(UndoRedo),
     /// One command.
     One(Brief),
     /// The commands that write the text that stands there.
@@ -63,12 +63,12 @@ pub(crate) fn one(brief: Brief, rest: Option<&[u8]>) -> Result<Order, LineReason
     alone(Order::One(brief), rest)
 }
 
-/// A turn, without a word after it.
-pub(crate) fn turn(turn: Turn, rest: Option<&[u8]>) -> Result<Order, LineReason>
+/// An undo or a redo, without a word after it.
+pub(crate) fn undo_redo(which: UndoRedo, rest: Option<&[u8]>) -> Result<Order, LineReason>
     ensures { ReadsPlain (bytes_after rest.entry) result
-        (alone (TurnOf turn) (words_after rest.entry)) }
+        (alone (UndoRedoOf which) (words_after rest.entry)) }
 {
-    alone(Order::Turn(turn), rest)
+    alone(Order::UndoRedo(which), rest)
 }
 
 /// Whether these are signs of a text: 2/0 to 7/14.

@@ -8,8 +8,8 @@ use crate::brief::Brief;
 use crate::numbered::{
     area, c1, colour, full_row, full_screen, no_area, place, repeat, revision, table,
 };
-use crate::order::{Order, one, raw, text, turn};
-use crate::turn::Turn;
+use crate::order::{Order, one, raw, text, undo_redo};
+use crate::undo_redo::UndoRedo;
 use cept_codes::{C1Set, LineReason};
 
 /// What a word asks for, with what stands after it, which ends there in a script.
@@ -76,9 +76,9 @@ pub(crate) fn order_of(word: &[u8], rest: Option<&[u8]>, end: u32) -> Result<Ord
     } else if word == b"raw".as_slice() {
         raw(rest, end)
     } else if word == b"undo".as_slice() {
-        turn(Turn::TakeBack, rest)
+        undo_redo(UndoRedo::Undo, rest)
     } else if word == b"redo".as_slice() {
-        turn(Turn::MakeAgain, rest)
+        undo_redo(UndoRedo::Redo, rest)
     } else {
         Err(LineReason::UnknownWord)
     }

@@ -3,8 +3,8 @@ use Rattle.std.proofs.Common.{◌≡◌, ℕ, List, [], ◌∷◌, refl, sym, ap
 use Rattle.std.specs.List.{AllByRecursion}
 use Rattle.cept_editor.specs.Applying.{editor_after_step, editor_after_steps}
 use Rattle.cept_editor.specs.Kept.{EditorState, StandsAfter, editor_after, kept, none_kept}
-use Rattle.cept_editor.specs.Meaning.{Edit, IsValidStep, Step, Turn}
-use Rattle.cept_editor.proofs.Laws.{StandsAfter-start, editor_after-steps, idle_turn}
+use Rattle.cept_editor.specs.Meaning.{Edit, IsValidStep, Step, UndoRedo}
+use Rattle.cept_editor.proofs.Laws.{StandsAfter-start, editor_after-steps, idle_undo_redo}
 use Rattle.cept_parser.specs.Items.{commands}
 use Rattle.cept_live.specs.declared.lines.Lined.{Lined}
 use Rattle.cept_live.specs.declared.lines.Lined.TheVariants as answers
@@ -25,8 +25,8 @@ step_done : (step : Step) (old new : LiveState) (list now : List Notice) (answer
     → StepDone step old list answer new now → (answer ≡ answers.NoMemory → ⊥)
     → (editor_of new ≡ editor_after_step (editor_of old) step) × IsValidStep step
 step_done step old new list now (answers.Made notices) done some = (done.made, done.valid)
-step_done (Turn turn) old new list now answers.Nothing done some =
-    (ap editor_of done.1.live ∙ sym (idle_turn (editor_of old) turn done.0), tt)
+step_done (UndoRedo which) old new list now answers.Nothing done some =
+    (ap editor_of done.1.live ∙ sym (idle_undo_redo (editor_of old) which done.0), tt)
 step_done (Edit cs) old new list now answers.Nothing done some = absurd done.0
 step_done step old new list now answers.NoMemory done some = absurd (some refl)
 step_done step old new list now answers.Early done some = absurd done

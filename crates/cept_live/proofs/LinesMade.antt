@@ -7,8 +7,8 @@ use Rattle.cept_codes.specs.Place.{Place}
 use Rattle.cept_editor.specs.Applying.{changes_in_turn, changes_of_step, editor_after_step}
 use Rattle.cept_editor.specs.Events.{paints}
 use Rattle.cept_editor.specs.Kept.{EditorState, StandsAfter, kept_after}
-use Rattle.cept_editor.specs.declared.turn.Turn.{Turn as TurnKind}
-use Rattle.cept_editor.specs.Meaning.{HasCommand, IsValidStep, Step, Turn}
+use Rattle.cept_editor.specs.declared.undo_redo.UndoRedo.{UndoRedo as UndoRedoKind}
+use Rattle.cept_editor.specs.Meaning.{HasCommand, IsValidStep, Step, UndoRedo}
 use Rattle.cept_editor.specs.Stepping.{line_events, states_ahead}
 use Rattle.cept_editor.proofs.Laws.{StandsAfter-step, paints-step}
 use Rattle.cept_profile.specs.Changes.{changes_between, differences, marked_looks}
@@ -76,18 +76,18 @@ marks-none_left s left marked none =
     sym (marked_with-none marked)
     ∙ ap (λ (l : List Command). marked_with marked (change_sayings 0 (changes_in_turn s l))) (sym none)
 
--- the marks of what a turn changes
-pub marks-turned : (turn : TurnKind) (old new : EditorState) (marks changed : List Bool)
-    → new ≡ editor_after_step old (Turn turn) → marks ≡ no_marks
+-- the marks of what an undo or a redo changes
+pub marks-moved : (which : UndoRedoKind) (old new : EditorState) (marks changed : List Bool)
+    → new ≡ editor_after_step old (UndoRedo which) → marks ≡ no_marks
     → changed ≡ marked_with marks (change_sayings 0 (changes_between (looks_of (core_of old.screen)) (looks_of (core_of new.screen))))
-    → changed ≡ marked_with no_marks (change_sayings 0 (changes_of_step old (Turn turn)))
-marks-turned turn old new marks changed made none is =
+    → changed ≡ marked_with no_marks (change_sayings 0 (changes_of_step old (UndoRedo which)))
+marks-moved which old new marks changed made none is =
     let g = looks_of (core_of old.screen) in
     is
     ∙ ap (λ (m : List Bool). marked_with m (change_sayings 0 (changes_between g (looks_of (core_of new.screen))))) none
     ∙ ap (λ (e : EditorState). marked_with no_marks (change_sayings 0 (changes_between g (looks_of (core_of e.screen))))) made
 
--- while no edit was made, none can be taken back or made again
+-- while no edit was made, none can be undone or redone
 pub past-none : (edits : Option Editing) (s t : State) → edits ≡ None → past_of edits s ≡ past_of edits t
 past-none edits s t none = ap (λ e. past_of e s) none ∙ sym (ap (λ e. past_of e t) none)
 
@@ -106,7 +106,7 @@ editor-of_edits editing edits s is_past is_future = λ i. record { screen = s; p
 pub line-made : (step : Step) (old new : LiveState) (list now : List Notice) (to : ℕ) (changed : List Bool)
     → old.parser.finished ≡ true → 960 ≤ length list → new.parser ≡ old.parser → new.phase ≡ old.phase → to ≤ 960
     → editor_of new ≡ editor_after_step (editor_of old) step
-    → ((turn : TurnKind) → step ≡ Turn turn → states_ahead (editor_of old) turn ≢ []) → IsValidStep step → HasCommand step
+    → ((which : UndoRedoKind) → step ≡ UndoRedo which → states_ahead (editor_of old) which ≢ []) → IsValidStep step → HasCommand step
     → changed ≡ marked_with no_marks (change_sayings 0 (changes_of_step (editor_of old) step))
     → Tells list 0 (change_sayings old.parser.place (marked_looks changed (looks_of (core_of new.screen)))) to now
     → new.renewed

@@ -8,8 +8,8 @@ use Rattle.cept_codes.specs.Place.{Place}
 use Rattle.cept_editor.specs.Applying.{editor_after_step}
 use Rattle.cept_editor.specs.Events.{paints}
 use Rattle.cept_editor.specs.Kept.{EditorState, KeptEdits, StandsAfter, kept_after}
-use Rattle.cept_editor.specs.declared.turn.Turn.{Turn as TurnKind}
-use Rattle.cept_editor.specs.Meaning.{Edit, IsValidStep, Step, Turn, line_meaning}
+use Rattle.cept_editor.specs.declared.undo_redo.UndoRedo.{UndoRedo as UndoRedoKind}
+use Rattle.cept_editor.specs.Meaning.{Edit, IsValidStep, Step, UndoRedo, line_meaning}
 use Rattle.cept_editor.specs.Stepping.{line_events, states_ahead}
 use Rattle.cept_profile.specs.Changes.{marked_looks}
 use Rattle.cept_profile.specs.Look.{looks_of}
@@ -52,7 +52,7 @@ pub record MakesLine (step : Step) (old : LiveState) (list : List Notice) (new :
   pub most : to ≤ 960
   pub made : editor_of new ≡ editor_after_step (editor_of old) step
   -- an undo or a redo brings a state
-  pub finds : (turn : TurnKind) → step ≡ Turn turn → states_ahead (editor_of old) turn ≢ []
+  pub finds : (which : UndoRedoKind) → step ≡ UndoRedo which → states_ahead (editor_of old) which ≢ []
   -- whatever page and kept edits it stands after, it stands after those that this line leaves
   pub stands : (page : List Command) (k : KeptEdits) → StandsAfter (editor_of old) page k
       → StandsAfter (editor_of new) page (kept_after k step)
@@ -61,12 +61,12 @@ pub record MakesLine (step : Step) (old : LiveState) (list : List Notice) (new :
 
 -- an undo and a redo that bring no state
 abbrev pub FindsNothing : Step → LiveState → Type 0
-FindsNothing (Turn turn) live = states_ahead (editor_of live) turn ≡ []
+FindsNothing (UndoRedo which) live = states_ahead (editor_of live) which ≡ []
 FindsNothing (Edit commands) live = ⊥
 
 -- an edit before which none is kept and none is undone
 abbrev pub IsFirstEdit : Step → LiveState → Type 0
-IsFirstEdit (Turn turn) live = ⊥
+IsFirstEdit (UndoRedo which) live = ⊥
 IsFirstEdit (Edit commands) live = (live.past ≡ []) × (live.future ≡ [])
 
 -- what becomes of an edit line, by the answer

@@ -4,12 +4,12 @@ use Rattle.cept_profile.specs.State.{State}
 use Rattle.cept_undo.specs.Past.{future, past}
 use Rattle.cept_live.specs.declared.edits.Editing.{Editing}
 
--- the states that can be brought back
+-- the states to which undo leads
 abbrev pub past_of : Option Editing → State → List State
 past_of None screen = []
 past_of (Some editing) screen = past editing.undo screen
 
--- the states that can be brought again
+-- the states to which redo leads
 abbrev pub future_of : Option Editing → State → List State
 future_of None screen = []
 future_of (Some editing) screen = future editing.undo screen

@@ -14,8 +14,8 @@ use Rattle.cept_live.specs.Notices.{Saying, notice_of, sayings_after}
 use Rattle.cept_live.specs.Renewed.{marked_with}
 
 -- the parser of its bytes, the screen of its commands, the phase of flashing, if it flashes, the places that items and lines
--- changed since the phase began, the states that taking edits back leads to, the latest first, and those that making them again
--- leads to, the nearest first
+-- changed since the phase began, the states to which undo leads, the latest first, and those to which redo leads, the nearest
+-- first
 pub record LiveState : Type 0 where
   pub parser : ParserState
   pub screen : State

@@ -1,4 +1,4 @@
-//! Makes edits on a screen, takes them back and makes them again, and marks the places that they change.
+//! Makes edits on a screen, undoes and redoes them, and marks the places that they change.
 ghost use Rattle.std.specs.Prelude.{◌≡◌, ℕ, List, [], IfOk, IfSome, OnErr, IsNone};
 ghost use Rattle.cept_codes.specs.declared.look.Look.{Look};
 ghost use Rattle.cept_editor.specs.Applying.{changes_in_turn, editor_after_step};
@@ -10,20 +10,20 @@ ghost use Rattle.cept_repaint.specs.InTurn.{state_after_all};
 ghost use Rattle.cept_undo.specs.Past.{IsBetweenEdits, IsWithinEdit, StaysBegun, future, past};
 ghost use Rattle.cept_live.specs.EditLines.{Counts};
 ghost use Rattle.cept_live.specs.Editing.{future_of, past_of};
-ghost use Rattle.cept_live.specs.inside.Editing.{HasTurned, editor_with};
+ghost use Rattle.cept_live.specs.inside.Editing.{HasMovedEdit, editor_with};
 ghost use Rattle.cept_live.specs.Notices.{change_sayings};
 ghost use Rattle.cept_live.specs.Renewed.{marked_with};
 
 use cept_codes::NoMemory;
-use cept_editor::{Commands, Turn};
+use cept_editor::{Commands, UndoRedo};
 use cept_outside::Steps;
 use cept_repaint::{GridGlass, Marks, Screen};
 use cept_undo::{Redone, Undo, Undone};
 use std::alloc::Global;
 use std::sync::ledger::Ledger;
 
-/// The last edits of a screen, as they are taken back and made again. What they paint goes to a glass
-/// at which nobody looks: what they change is marked.
+/// The last edits of a screen, as they are undone and redone. What they paint goes to a glass at which
+/// nobody looks: what they change is marked.
 #[derive(Drop)]
 pub(crate) struct Editing {
     undo: Undo,
@@ -113,26 +113,26 @@ impl Editing {
         self.undo.commit();
     }
 
-    /// Takes the last kept edit back, or makes the last undone one again, and marks the places that
-    /// look otherwise then. Answers whether there was one.
-    fn turn_screen<L: Ledger>(
+    /// Undoes the last kept edit, or redoes the last undone one, and marks the places that look
+    /// otherwise then. Answers whether there was one.
+    fn undo_redo_screen<L: Ledger>(
         &mut self,
         screen: &mut Screen,
-        turn: Turn,
+        which: UndoRedo,
         marks: &mut Marks,
         steps: &mut Steps<L>,
     ) -> bool
         requires { IsBetweenEdits self.old.undo screen.old }
-        ensures turns { HasTurned self.old.undo screen.old turn result self.new.undo screen.new }
+        ensures moves { HasMovedEdit self.old.undo screen.old which result self.new.undo screen.new }
         ensures marks { marks.new
             ≡ differences (looks_of (core_of screen.old)) (looks_of (core_of screen.new)) }
     {
-        match turn {
-            Turn::TakeBack => match self.undo.undo(screen, &mut self.glass, marks, steps) {
+        match which {
+            UndoRedo::Undo => match self.undo.undo(screen, &mut self.glass, marks, steps) {
                 Undone::Undone => true,
                 Undone::Nothing => false,
             },
-            Turn::MakeAgain => match self.undo.redo(screen, &mut self.glass, marks, steps) {
+            UndoRedo::Redo => match self.undo.redo(screen, &mut self.glass, marks, steps) {
                 Redone::Redone => true,
                 Redone::Nothing => false,
             },
@@ -140,32 +140,32 @@ impl Editing {
     }
 
     /// The same, and marks these places in `changed` besides.
-    pub(crate) fn turn<L: Ledger>(
+    pub(crate) fn undo_redo<L: Ledger>(
         &mut self,
         screen: &mut Screen,
-        turn: Turn,
+        which: UndoRedo,
         marks: &mut Marks,
         changed: &mut Marks,
         steps: &mut Steps<L>,
     ) -> bool
         requires { IsBetweenEdits self.old.undo screen.old }
-        ensures turns { HasTurned self.old.undo screen.old turn result self.new.undo screen.new }
+        ensures moves { HasMovedEdit self.old.undo screen.old which result self.new.undo screen.new }
         ensures changed { changed.new ≡ marked_with changed.old (change_sayings 0
             (changes_between (looks_of (core_of screen.old)) (looks_of (core_of screen.new)))) }
     {
-        let turned = self.turn_screen(screen, turn, marks, steps);
+        let moved = self.undo_redo_screen(screen, which, marks, steps);
         add_marks(marks, changed);
-        turned
+        moved
     }
 
-    /// How many edits can be taken back.
+    /// How many edits can be undone.
     pub(crate) fn kept(&self, screen: &Screen) -> u32
         ensures { Counts result (past self.now.undo screen.now) }
     {
         self.undo.kept()
     }
 
-    /// How many edits were taken back and can be made again.
+    /// How many edits were undone and can be redone.
     pub(crate) fn undone(&self, screen: &Screen) -> u32
         ensures { Counts result (future self.now.undo screen.now) }
     {

@@ -88,7 +88,7 @@ pub fn pieces_tell_the_same()
 
 /// A page that was fed whole, and lines of a script made after its end one by one, make the editor that
 /// the word `edit` makes of them: the same screen, the same states before the last edits, and the same
-/// after those taken back.
+/// after those undone.
 pub fn lines_make_an_editor()
     ensures start { (old new : LiveState) (list now : List Notice) (from to : ℕ) (bytes : List ℕ)
         → Ends old list from new to now → HasFed old bytes

@@ -10,10 +10,10 @@ pub(crate) const LONGEST_LINE: usize = 1 << 20;
 /// What became of a line.
 #[derive(Clone, Copy, Debug, PartialEq, Eq)]
 pub enum Lined {
-    /// An edit was made, taken back or made again, and so many notices were put.
+    /// An edit was made, undone or redone, and so many notices were put.
     Made(usize),
     /// There is nothing to make: the line is empty or a comment, or it is an undo and no edit can be
-    /// taken back, or a redo and none can be made again.
+    /// undone, or a redo and none can be redone.
     Nothing,
     /// The page has not ended, or the list has room for fewer notices than a line may need.
     Early,

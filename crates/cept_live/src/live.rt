@@ -5,7 +5,7 @@ ghost use Rattle.std.specs.List.{AllByRecursion};
 ghost use Rattle.cept_codes.specs.Command.{IsValidCommand};
 ghost use Rattle.cept_codes.specs.Look.{blank_look};
 ghost use Rattle.cept_codes.specs.Table.{table};
-ghost use Rattle.cept_editor.specs.Meaning.{Edit as EditOf, Turn as TurnOf};
+ghost use Rattle.cept_editor.specs.Meaning.{Edit as EditOf, UndoRedo as UndoRedoOf};
 ghost use Rattle.cept_outside.specs.Ledger.{IsBlankOf};
 ghost use Rattle.cept_profile.specs.Changes.{look_at};
 ghost use Rattle.cept_profile.specs.Look.{looks_of};
@@ -25,7 +25,7 @@ use crate::tell::{Display, take_items, tell_marked};
 use crate::writing::{Text, has_bytes, put_front};
 use cept_codes::{NoMemory, Pos};
 use cept_control::Control;
-use cept_editor::{Commands, Edit, Turn, read_line};
+use cept_editor::{Commands, Edit, UndoRedo, read_line};
 use cept_flash::next_phase;
 use cept_outside::{Sink, Steps, WriteFault};
 use cept_parser::{Closed, Parser};
@@ -244,11 +244,16 @@ impl Live {
         Lined::Made(notices)
     }
 
-    /// Takes the last kept edit back, or makes the last undone one again.
-    fn turn_by<L: Ledger>(&mut self, turn: Turn, list: &mut [Notice], blank: Blank) -> Lined
+    /// Undoes the last kept edit, or redoes the last undone one.
+    fn undo_redo_by<L: Ledger>(
+        &mut self,
+        which: UndoRedo,
+        list: &mut [Notice],
+        blank: Blank,
+    ) -> Lined
         requires ready { IsReady self.old list.old }
         requires blank { IsBlankOf L.name L.parts blank.name blank.parts }
-        ensures { StepDone (TurnOf turn) self.old list.old result self.new list.new }
+        ensures { StepDone (UndoRedoOf which) self.old list.old result self.new list.new }
     {
         let Some(mut editing) = self.edits.take() else {
             return Lined::Nothing;
@@ -260,9 +265,9 @@ impl Live {
             marks,
             renewed,
         } = &mut self.display;
-        let turned = editing.turn(screen, turn, marks, &mut changed, &mut steps);
+        let moved = editing.undo_redo(screen, which, marks, &mut changed, &mut steps);
         self.edits = Some(editing);
-        if !turned {
+        if !moved {
             return Lined::Nothing;
         }
         let notices = tell_marked(self.parser.place(), &changed, screen, renewed, list, 0);
@@ -284,7 +289,7 @@ impl Live {
         let blank = Blank::new(1);
         match read_line(line) {
             Ok(None) => Lined::Nothing,
-            Ok(Some(Edit::Turn(turn))) => self.turn_by::<Brand>(turn, list, blank),
+            Ok(Some(Edit::UndoRedo(which))) => self.undo_redo_by::<Brand>(which, list, blank),
             Ok(Some(Edit::Commands(commands))) => {
                 self.edit_by::<Brand>(alloc, commands, list, blank)
             }
@@ -292,7 +297,7 @@ impl Live {
         }
     }
 
-    /// How many edits can be taken back.
+    /// How many edits can be undone.
     pub fn kept(&self) -> u32
         ensures { Counts result self.now.past }
     {
@@ -302,7 +307,7 @@ impl Live {
         }
     }
 
-    /// How many edits were taken back and can be made again.
+    /// How many edits were undone and can be redone.
     pub fn undone(&self) -> u32
         ensures { Counts result self.now.future }
     {

@@ -14,15 +14,14 @@ use Rattle.cept_codes.specs.declared.stroke.Stroke.{Stroke}
 use Rattle.cept_codes.specs.declared.stroke.Stroke.TheVariants as strokes
 use Rattle.cept_codes.specs.Attribute.{unset_pen}
 use Rattle.cept_codes.specs.Place.{Place}
-use Rattle.cept_profile.specs.Control.{control_after, control_with, working_at, working_with_sets}
+use Rattle.cept_profile.specs.Control.{control_after, control_with, working_at}
 use Rattle.cept_profile.specs.Motions.{row_below, working_ahead}
-use Rattle.cept_profile.specs.Sets.{GraphicResult, Sets, graphic, initial_sets, is_left, read_as, set_of}
-use Rattle.cept_profile.specs.Sets.{sets_with_left}
+use Rattle.cept_profile.specs.Sets.{Sets, code_of, initial_sets, is_left, read_as, set_of}
 use Rattle.cept_profile.specs.Sets.{sign}
 use Rattle.cept_profile.specs.State.{Core}
 use Rattle.cept_profile.specs.Strokes.{strokes_of}
 use Rattle.cept_profile.specs.Working.{ControlState, Working}
-use Rattle.cept_profile.specs.Writing.{sign_with_accent, strokes_of_read, working_after_read}
+use Rattle.cept_profile.specs.Writing.{control_after_shift, sign_with_accent, strokes_of_read, working_after_read}
 use Rattle.cept_profile.proofs.Laws.{on_strokes-none}
 use Rattle.cept_plot.specs.inside.Drawing.{control_in_drawing}
 
@@ -83,9 +82,6 @@ position-control k v p within =
 
 -- ---- a sign
 
-abbrev pub result_of : Read → Sets → GraphicResult
-result_of read s = record { read = read; sets = s }
-
 -- moving on changes the position alone
 ahead_at : (c : ControlState) (n : ℕ) (w : Working)
     → working_ahead c n w ≡ working_at (working_ahead c n w).row (working_ahead c n w).column w
@@ -103,23 +99,24 @@ hand_after k s v g =
     record { row = on.row; column = on.column; last = Some g; kept = v.kept }
 
 module _ (k : Core) (s : Sets) (v : Hand) (code : ℕ) (g : Glyph)
-    (gives : graphic s code false ≡ result_of (reads.Glyph g) s) where
+    (gives : read_as (set_of s code false) (code_of code) ≡ reads.Glyph g) where
   pub sign-control : control_after (control_at k s v) (commands.Graphic code)
-      ≡ control_at k s (hand_after k s v (sign_with_accent g.set g.code None))
+      ≡ control_at k (record s { single = None })
+      (hand_after k (record s { single = None }) v (sign_with_accent g.set g.code None))
   sign-control =
       let from : ControlState = control_at k s v in
-      ap (λ (r : GraphicResult). control_with from
-      (working_after_read (control_with from (working_with_sets r.sets from.working)) r.read)) gives
+      let spent : ControlState = control_after_shift from in
+      ap (λ (r : Read). control_with from (working_after_read spent r)) gives
       ∙ ap (λ (w : Working). control_with from
       (record w { last = Some (sign_with_accent g.set g.code None); accent = None }))
-      (ahead_at from 1 from.working)
+      (ahead_at spent 1 spent.working)
 
   pub sign-strokes : strokes_of (control_at k s v) (commands.Graphic code)
       ≡ strokes.Put (record { row = v.row; column = v.column })
       (record { what = whats.Parallel (sign_with_accent g.set g.code None) unset_pen; protected = false }) ∷ []
   sign-strokes =
       let from : ControlState = control_at k s v in
-      ap (λ (r : GraphicResult). strokes_of_read from r.read) gives
+      ap (λ (r : Read). strokes_of_read from r) gives
       ∙ ap (λ (more : List Stroke). strokes.Put (record { row = v.row; column = v.column })
       (record { what = whats.Parallel (sign_with_accent g.set g.code None) unset_pen; protected = false }) ∷ more)
       (on_strokes-none from 1 refl)
@@ -127,16 +124,16 @@ module _ (k : Core) (s : Sets) (v : Hand) (code : ℕ) (g : Glyph)
 -- ---- what bytes give
 
 -- the space
-pub space_gives : graphic initial_sets 0x20 false ≡ result_of (reads.Glyph (sign sets.P 0x20)) initial_sets
+pub space_gives : read_as (set_of initial_sets 0x20 false) (code_of 0x20) ≡ reads.Glyph (sign sets.P 0x20)
 unfolding read_as set_of
 space_gives = refl
 
 abbrev pub mosaic_sets : Sets
-mosaic_sets = sets_with_left initial_sets 1
+mosaic_sets = record initial_sets { left = 1 }
 
 -- a block mosaic, where G1 is locked to the left bytes
 pub mosaic_gives : (code : ℕ) → 0x21 ≤ code → code ≤ 0x7F
-    → graphic mosaic_sets code false ≡ result_of (reads.Glyph (sign sets.M code)) mosaic_sets
+    → read_as (set_of mosaic_sets code false) (code_of code) ≡ reads.Glyph (sign sets.M code)
 unfolding read_as set_of
 mosaic_gives code low high =
     let space : Read = reads.Glyph (sign sets.P 0x20) in
@@ -144,6 +141,6 @@ mosaic_gives code low high =
     let same : code % 0x80 ≡ code = omega arith in
     let left : is_left code ≡ true = grind (arith, nat_tests) in
     let no_space : eqb code 0x20 ≡ false = grind (arith, nat_tests) in
-    ap (λ (c : ℕ). result_of (read_as (set_of mosaic_sets code false) c) mosaic_sets) same
-    ∙ ap (λ (t : Bool). result_of (read_as (cond t sets.M sets.S) code) mosaic_sets) left
-    ∙ ap (λ (t : Bool). result_of (cond t space mosaic) mosaic_sets) no_space
+    ap (λ (c : ℕ). read_as (set_of mosaic_sets code false) c) same
+    ∙ ap (λ (t : Bool). read_as (cond t sets.M sets.S) code) left
+    ∙ ap (λ (t : Bool). cond t space mosaic) no_space

@@ -13,14 +13,14 @@ use Rattle.cept_codes.proofs.Laws.{OnScreen-place_of}
 use Rattle.cept_profile.specs.Cells.{cells_after_all}
 use Rattle.cept_profile.specs.PageParts.{part_after_all}
 use Rattle.cept_profile.specs.State.{Core, Page, State, core_of, state_after}
-use Rattle.cept_profile.specs.Valid.{AllValid, IsValidState}
+use Rattle.cept_profile.specs.Valid.{IsValidState}
 use Rattle.cept_profile.specs.Working.{ControlState}
-use Rattle.cept_profile.proofs.Laws.{IsValidState-state_after}
 use Rattle.cept_plot.specs.Commands.{IsDrawnOn, cell_in_core, cells_commands, drawn, is_written_anew}
 use Rattle.cept_plot.specs.Commands.{opening, value_commands, value_of_points}
 use Rattle.cept_plot.proofs.CommandsInTurn.{numbered_cell_commands}
 use Rattle.cept_plot.specs.inside.Drawing.{StandsDrawn, cell_in_drawing, cell_of_value, control_in_drawing}
 use Rattle.cept_repaint.specs.InTurn.{state_after_all}
+use Rattle.cept_repaint.proofs.Laws.{IsValidState-state_after_all, state_after_all-append}
 use Rattle.cept_plot.proofs.CellDrawn.{IsPut, commands_none, commands_valid, commands_written, none_of_all, value_put}
 use Rattle.cept_plot.proofs.CellsInDrawing.{IsFree, at_number, cell_in_turn, cell_of_other, cell_unwritten}
 use Rattle.cept_plot.proofs.CellsInDrawing.{cell_written, free_by, not_at_number, written_by}
@@ -29,19 +29,12 @@ use Rattle.cept_plot.proofs.FieldDrawn.{field_drawn}
 use Rattle.cept_plot.proofs.PutOnPage.{cell-elsewhere, cell-there, page_with, state_of}
 use Rattle.cept_plot.proofs.ValuesWritten.{value_of_points-lt}
 
--- valid commands keep a valid state valid
-valid_after_all : (s : State) (cs : List Command) → IsValidState s → AllValid cs → IsValidState (state_after_all s cs)
-unfolding state_after_all
-valid_after_all s [] is all = is
-valid_after_all s (c ∷ cs) is all =
-    valid_after_all (state_after s c) cs (IsValidState-state_after s c is all.0) all.1
-
 -- after the opening
 pub stands_first : (s : State) → IsValidState s → (f : ℕ → ℕ → Bool)
     → StandsDrawn (core_of s) f 0 (state_after_all s opening)
 unfolding state_after_all cells_after_all part_after_all
 stands_first s is f = record {
-  valid = valid_after_all s opening is (tt, (tt, tt));
+  valid = IsValidState-state_after_all s opening is (tt, (tt, tt));
   control = refl;
   cells = λ r c on. sym (cell_in_turn (core_of s) f 0 r c (omega arith));
   page = refl;
@@ -105,7 +98,7 @@ module _ (k : Core) (f : ℕ → ℕ → Bool) (n : ℕ) (s : State) (below : n 
       (sym (control_at-hand_of k s.control stands.control))
       (value_put k s.page (hand_of s.control) (place_of n) stands.valid.page free.within value
       (value_of_points-lt f (n / 40 + 1) (n % 40 + 1))) in
-      let valid : IsValidState (state_after_all s cs) = valid_after_all s cs stands.valid
+      let valid : IsValidState (state_after_all s cs) = IsValidState-state_after_all s cs stands.valid
       (commands_valid f (n / 40 + 1) (n % 40 + 1) (OnScreen-place_of n below)) in
       subst (λ (list : List Command). StandsDrawn k f (n + 1) (state_after_all s list))
       (sym (commands_written k f n anew)) (stands_put anew (state_after_all s cs) valid put)
@@ -158,13 +151,6 @@ pub stands_last : (k : Core) (f : ℕ → ℕ → Bool) (s : State) → StandsDr
     → IsDrawnOn k f (core_of (state_after s (commands.Implicit k.implicit)))
 stands_last k f s stands =
     subst (IsDrawnOn k f) (sym (core_last k s stands.control)) (field_drawn k f s.page stands.cells stands.page)
-
--- commands after others
-pub state_after_all-append : (s : State) (cs ds : List Command)
-    → state_after_all s (cs ++ ds) ≡ state_after_all (state_after_all s cs) ds
-unfolding state_after_all
-state_after_all-append s [] ds = refl
-state_after_all-append s (c ∷ cs) ds = state_after_all-append (state_after s c) cs ds
 
 -- cells from one number on
 stands_all : (k : Core) (f : ℕ → ℕ → Bool) (m n : ℕ) (s : State) → m + n ≤ 960 → StandsDrawn k f m s

@@ -1,6 +1,9 @@
 -- Lines that were read one after the other.
 use Rattle.std.proofs.Common.{◌≡◌, ℕ, ◌+◌, ◌≤◌, ◌==◌, true, List, [], ◌∷◌, ◌++◌, length}
 use Rattle.std.proofs.Common.{Option, Some, None, Result, Ok, Err, refl, sym, ap, ◌∙◌, subst, arith}
+use Rattle.std.specs.List.{flat_map}
+use Rattle.std.specs.Option.{option_flatten, option_to_list}
+use Rattle.std.specs.Result.{result_ok}
 use Rattle.std.proofs.lemmas.Bool.{eqb-true}
 use Rattle.std.proofs.lemmas.List.{append_assoc, append-nil}
 use Rattle.cept_codes.specs.declared.line_reason.LineReason.{LineReason}
@@ -10,10 +13,18 @@ use Rattle.cept_plot.specs.declared.drawing.DrawFault.{DrawFault}
 use Rattle.cept_plot.specs.declared.drawing.DrawFault.TheVariants as faults
 use Rattle.cept_plot.specs.declared.figure.Figure.{Figure}
 use Rattle.cept_words.specs.Faults.{Fault, fault_from, fault_or}
-use Rattle.cept_plot.specs.Drawings.{AreValidFigures, SaysFault, figure_in, figures_in}
+use Rattle.cept_plot.specs.Drawings.{AreValidFigures, SaysFault}
 use Rattle.cept_plot.specs.Drawings.{figures_of, first_fault, line_meaning}
 use Rattle.cept_plot.specs.Figures.{IsValidFigure}
 use Rattle.cept_plot.specs.inside.Kept.{HasFigures, HasKept, IsUnkept}
+
+-- the figure of a line, if it has one
+abbrev figure_in : Result (Option Figure) LineReason → List Figure
+figure_in m = option_to_list (option_flatten (result_ok m))
+
+-- the figures of lines
+abbrev pub figures_in : List (List ℕ) → List Figure
+figures_in ls = flat_map (λ line. figure_in (line_meaning line)) ls
 
 -- so many lines were read, and these bytes are left
 pub record HasRead (bytes : List ℕ) (list : List Figure) (n : ℕ) (rest : List ℕ) : Type 0 where
@@ -54,7 +65,7 @@ kept_valid list more (Err reason) kept all = absurd kept
 pub read_more : (bytes : List ℕ) (list more : List Figure) (n : ℕ) (left part rest : List ℕ)
     → HasRead bytes list n left → IsFirstLine left part rest → HasKept (line_meaning part) list more
     → HasRead bytes more (n + 1) rest
-unfolding figures_in fault_from
+unfolding fault_from
 read_more bytes list more n left part rest r first kept = record {
   figures =
       r.figures ∙ ap (λ (ls : List (List ℕ)). list ++ figures_in ls) first.lines
@@ -79,7 +90,7 @@ read_none bytes list e =
 
 pub read_all : (bytes : List ℕ) (list : List Figure) (n : ℕ) (left : List ℕ) → HasRead bytes list n left
     → length left ≡ 0 → HasFigures bytes list
-unfolding figures_in fault_from
+unfolding fault_from
 read_all bytes list n [] r e = record { figures = r.figures ∙ append-nil list; fault = r.fault; valid = r.valid }
 read_all bytes list n (a ∷ left) r e = absurd (omega arith)
 

@@ -12,17 +12,12 @@ use Rattle.cept_profile.specs.Valid.{AllValid}
 use Rattle.cept_profile.proofs.Laws.{grid_with_paints-append}
 use Rattle.cept_repaint.specs.Applied.{IsApplied}
 use Rattle.cept_repaint.specs.GlassState.{GlassState, Lists}
+use Rattle.cept_repaint.proofs.Laws.{state_after_all-append, rows_in_reach_of_all-append, rows_renewed_by_all-append}
 use Rattle.cept_plot.specs.Painted.{changes_of_all}
 use Rattle.cept_repaint.specs.InTurn.{rows_in_reach_of_all, rows_renewed_by_all, state_after_all}
 use Rattle.cept_plot.specs.inside.ValidPainted.{ArePaintedAndValid}
 
 -- ---- the commands of two lists
-
-pub state_after_all-append : (s : State) (first second : List Command)
-    → state_after_all s (first ++ second) ≡ state_after_all (state_after_all s first) second
-unfolding state_after_all
-state_after_all-append s [] second = refl
-state_after_all-append s (c ∷ first) second = state_after_all-append (state_after s c) first second
 
 changes_of_all-append : (s : State) (first second : List Command)
     → changes_of_all s (first ++ second) ≡ changes_of_all s first ++ changes_of_all (state_after_all s first) second
@@ -33,22 +28,6 @@ changes_of_all-append s (c ∷ first) second =
     ap (λ (l : List (Place × Look)). here ++ l) (changes_of_all-append (state_after s c) first second)
     ∙ sym (append_assoc here (changes_of_all (state_after s c) first)
     (changes_of_all (state_after_all (state_after s c) first) second))
-
-rows_in_reach_of_all-append : (s : State) (first second : List Command)
-    → rows_in_reach_of_all s (first ++ second)
-    ≡ rows_in_reach_of_all s first + rows_in_reach_of_all (state_after_all s first) second
-unfolding rows_in_reach_of_all state_after_all
-rows_in_reach_of_all-append s [] second = omega arith
-rows_in_reach_of_all-append s (c ∷ first) second =
-    omega (arith, rows_in_reach_of_all-append (state_after s c) first second)
-
-rows_renewed_by_all-append : (s : State) (first second : List Command)
-    → rows_renewed_by_all s (first ++ second)
-    ≡ rows_renewed_by_all s first + rows_renewed_by_all (state_after_all s first) second
-unfolding rows_renewed_by_all state_after_all
-rows_renewed_by_all-append s [] second = omega arith
-rows_renewed_by_all-append s (c ∷ first) second =
-    omega (arith, rows_renewed_by_all-append (state_after s c) first second)
 
 pub AllValid-append : (first second : List Command) → AllValid first → AllValid second → AllValid (first ++ second)
 AllValid-append [] second former latter = latter

@@ -6,7 +6,7 @@ use Rattle.cept_codes.specs.declared.line_reason.LineReason.TheVariants as reaso
 use Rattle.cept_plot.specs.declared.figure.Figure.TheVariants as figures
 use Rattle.cept_plot.specs.declared.figure.Point.{Point}
 use Rattle.cept_words.specs.Faults.{Fault, fault_from}
-use Rattle.cept_plot.specs.Drawings.{figure_of, figures_in, figures_of, first_fault, line_meaning}
+use Rattle.cept_plot.specs.Drawings.{figure_of, figures_of, first_fault, line_meaning}
 
 abbrev at : ℕ → ℕ → Point
 at x y = record { x = x; y = y }
@@ -17,7 +17,7 @@ fault n reason = Some (record { line = n; reason = reason })
 -- an empty line and a remark are no figures, a last line may lack its end, and leading zeros count as digits
 whole : figures_of (codes "# a note" ++ 0x0A ∷ 0x0A ∷ codes "plot 05 07" ++ 0x0A ∷ codes "line 0 0 79 71")
     ≡ figures.Plot (at 5 7) ∷ figures.Line (at 0 0) (at 79 71) ∷ []
-unfolding figures_in line_meaning figure_of
+unfolding line_meaning figure_of
 whole = refl
 
 -- each line counts, and the first reason is said

@@ -1,7 +1,9 @@
 -- A drawing (this project's own): its figures, and the first line that is outside the grammar. Lines are counted from 1.
-use Rattle.std.specs.Prelude.{ℕ, ◌≡◌, ◌+◌, ◌&&◌, ◌==◌, Bool, nat_lt, List, [], ◌∷◌, ◌++◌, codes, bytes_eq, Option, Some, None}
+use Rattle.std.specs.Prelude.{ℕ, ◌≡◌, ◌&&◌, ◌==◌, Bool, nat_lt, List, [], ◌∷◌, codes, bytes_eq, Option, Some, None}
 use Rattle.std.specs.Prelude.{Result, Ok, Err, if◌then◌else◌}
-use Rattle.std.specs.List.{AllByRecursion}
+use Rattle.std.specs.List.{AllByRecursion, flat_map}
+use Rattle.std.specs.Option.{ok_or, option_flatten, option_map, option_to_list, option_transpose, option_zip}
+use Rattle.std.specs.Result.{result_ok}
 use Rattle.cept_codes.specs.declared.line_reason.LineReason.{LineReason}
 use Rattle.cept_codes.specs.declared.line_reason.LineReason.TheVariants as reasons
 use Rattle.cept_plot.specs.declared.drawing.DrawFault.{DrawFault}
@@ -24,22 +26,14 @@ point_of _ _ = None
 abbrev pub point : List ℕ → List ℕ → Option Point
 point v w = point_of (number v) (number w)
 
--- a figure of a point, and of two points
-abbrev pub at_point : (Point → Figure) → Option Point → Result Figure LineReason
-at_point figure (Some p) = Ok (figure p)
-at_point figure None = Err reasons.BadNumber
-
-abbrev pub between_points : (Point → Point → Figure) → Option Point → Option Point → Result Figure LineReason
-between_points figure (Some p) (Some q) = Ok (figure p q)
-between_points figure _ _ = Err reasons.BadNumber
-
--- a figure of two words, and of four words
+-- a figure of the point of two words, and of the points of four words
 abbrev pub of_two : (Point → Figure) → List (List ℕ) → Result Figure LineReason
-of_two figure (a ∷ b ∷ []) = at_point figure (point a b)
+of_two figure (a ∷ b ∷ []) = ok_or (option_map figure (point a b)) reasons.BadNumber
 of_two figure _ = Err reasons.WrongCount
 
 abbrev pub of_four : (Point → Point → Figure) → List (List ℕ) → Result Figure LineReason
-of_four figure (a ∷ b ∷ c ∷ d ∷ []) = between_points figure (point a b) (point c d)
+of_four figure (a ∷ b ∷ c ∷ d ∷ []) =
+    ok_or (option_map (λ points. figure points.0 points.1) (option_zip (point a b) (point c d))) reasons.BadNumber
 of_four figure _ = Err reasons.WrongCount
 
 -- the figure of a word and of the words after it
@@ -57,31 +51,16 @@ abbrev pub figure_of_words : List (List ℕ) → Result Figure LineReason
 figure_of_words [] = Err reasons.UnknownWord
 figure_of_words (word ∷ more) = figure_of word more
 
--- a result that is a figure
-abbrev pub some_figure : Result Figure LineReason → Result (Option Figure) LineReason
-some_figure (Ok figure) = Ok (Some figure)
-some_figure (Err reason) = Err reason
-
 -- what a line means: an empty line and one that begins with 2/3 stand for nothing
 unfoldable pub line_meaning : List ℕ → Result (Option Figure) LineReason
 line_meaning [] = Ok None
-line_meaning (a ∷ more) = if a == 0x23 then Ok None else some_figure (figure_of_words (words (a ∷ more)))
+line_meaning (a ∷ more) = if a == 0x23 then Ok None else option_transpose (Some (figure_of_words (words (a ∷ more))))
 
 -- ---- what a drawing means
 
--- the figure of a line, if it has one
-abbrev pub figure_in : Result (Option Figure) LineReason → List Figure
-figure_in (Ok (Some figure)) = figure ∷ []
-figure_in _ = []
-
--- the figures of lines
-unfoldable pub figures_in : List (List ℕ) → List Figure
-figures_in [] = []
-figures_in (line ∷ more) = figure_in (line_meaning line) ++ figures_in more
-
--- the figures of a drawing
+-- the figures of a drawing: those of its lines that mean one
 abbrev pub figures_of : List ℕ → List Figure
-figures_of bytes = figures_in (lines bytes)
+figures_of bytes = flat_map (λ line. option_to_list (option_flatten (result_ok (line_meaning line)))) (lines bytes)
 
 -- the first line of a drawing that is outside the grammar
 abbrev pub first_fault : List ℕ → Option Fault

@@ -1,4 +1,4 @@
--- States that are unwound in turn, and what becomes of them where the screen turns to the nearest.
+-- States that are unwound in turn, and what becomes of them where the screen goes to the nearest.
 use Rattle.std.proofs.Common.{◌≡◌, ℕ, ◌≤◌, ◌+◌, zero, suc, Some, None, List, [], ◌∷◌, take, drop, length}
 use Rattle.std.proofs.Common.{refl, sym, ap, subst, ◌∙◌, arith}
 use Rattle.std.specs.List.{AllByRecursion}
@@ -54,9 +54,9 @@ take_valid zero states valid = tt
 take_valid (suc n) [] valid = tt
 take_valid (suc n) (s ∷ states) valid = (valid.0, take_valid n states valid.1)
 
--- ---- a turn to the nearest state
+-- ---- to the nearest state
 
--- the states to which the screen can turn, where this is the first delta
+-- the states to which the screen can go, where this is the first delta
 states_first : (now : State) (olds : List OldValues) (old : OldValues) → Some old ≡ slice_get olds 0
     → unwound_in_turn now olds ≡ unwound now old ∷ unwound_in_turn (unwound now old) (drop 1 olds)
 states_first now olds old first =
@@ -67,15 +67,15 @@ pub nearest_valid : (now : State) (olds : List OldValues) (old : OldValues) → 
 nearest_valid now olds old first valid =
     (subst (λ (l : List State). AllByRecursion IsValidState l) (states_first now olds old first) valid).0
 
-pub turned_to : (now after : State) (olds : List OldValues) (old : OldValues) → Some old ≡ slice_get olds 0
+pub moved_to : (now after : State) (olds : List OldValues) (old : OldValues) → Some old ≡ slice_get olds 0
     → after ≡ unwound now old → after ≡ nearest (unwound_in_turn now olds) now
-turned_to now after olds old first is =
+moved_to now after olds old first is =
     is ∙ sym (ap (λ (l : List State). nearest l now) (states_first now olds old first))
 
-pub turned_from : (now after : State) (olds : List OldValues) (old : OldValues) (rest : Buffer OldValues) (places : ℕ)
+pub moved_from : (now after : State) (olds : List OldValues) (old : OldValues) (rest : Buffer OldValues) (places : ℕ)
     → Some old ≡ slice_get olds 0 → after ≡ unwound now old → rest ≡ buffer (drop 1 olds) places
     → unwound_in_turn after rest.items ≡ drop 1 (unwound_in_turn now olds)
-turned_from now after olds old rest places first is popped =
+moved_from now after olds old rest places first is popped =
     ap (λ (b : Buffer OldValues). unwound_in_turn after b.items) popped
     ∙ ap (λ (s : State). unwound_in_turn s (drop 1 olds)) is
     ∙ sym (ap (λ (l : List State). drop 1 l) (states_first now olds old first))
@@ -87,42 +87,42 @@ rest_valid now after olds old first valid =
     subst (λ (l : List State). AllByRecursion IsValidState (drop 1 l)) (sym (states_first now olds old first))
     (subst (λ (l : List State). AllByRecursion IsValidState l) (states_first now olds old first) valid).1
 
-pub turned_from_valid : (now after : State) (olds : List OldValues) (old : OldValues) (rest : Buffer OldValues)
+pub moved_from_valid : (now after : State) (olds : List OldValues) (old : OldValues) (rest : Buffer OldValues)
     (places : ℕ) → Some old ≡ slice_get olds 0 → after ≡ unwound now old → rest ≡ buffer (drop 1 olds) places
     → AllByRecursion IsValidState (unwound_in_turn now olds) → AllByRecursion IsValidState (unwound_in_turn after rest.items)
-turned_from_valid now after olds old rest places first is popped valid =
+moved_from_valid now after olds old rest places first is popped valid =
     subst (λ (l : List State). AllByRecursion IsValidState l)
-    (sym (turned_from now after olds old rest places first is popped)) (rest_valid now after olds old first valid)
+    (sym (moved_from now after olds old rest places first is popped)) (rest_valid now after olds old first valid)
 
 pub some_by_first : (xs : List OldValues) (old : OldValues) → Some old ≡ slice_get xs 0 → 1 ≤ length xs
 some_by_first [] old first = absurd (true≢false (ap is_some first))
 some_by_first (x ∷ xs) old first = omega arith
 
 -- what leads back comes first on the other side
-turned_back : (now after : State) (olds others : List OldValues) (old back : OldValues) (more : Buffer OldValues)
+moved_back : (now after : State) (olds others : List OldValues) (old back : OldValues) (more : Buffer OldValues)
     (places : ℕ) → Some old ≡ slice_get olds 0 → length olds + length others ≤ places → unwound after back ≡ now
     → more ≡ buffer (take places (back ∷ others)) places
     → unwound_in_turn after more.items ≡ now ∷ unwound_in_turn now others
-turned_back now after olds others old back more places first room leads pushed =
+moved_back now after olds others old back more places first room leads pushed =
     ap (λ (b : Buffer OldValues). unwound_in_turn after b.items) pushed
     ∙ ap (unwound_in_turn after)
     (take_all places (back ∷ others) (omega (arith, room, some_by_first olds old first)))
     ∙ first_in_turn after back others
     ∙ ap (λ (s : State). s ∷ unwound_in_turn s others) leads
 
-pub turned_on : (now after : State) (olds others : List OldValues) (old back : OldValues) (more : Buffer OldValues)
+pub moved_on : (now after : State) (olds others : List OldValues) (old back : OldValues) (more : Buffer OldValues)
     (places : ℕ) → Some old ≡ slice_get olds 0 → length olds + length others ≤ places → unwound after back ≡ now
     → more ≡ buffer (take places (back ∷ others)) places
     → unwound_in_turn after more.items ≡ handed_on (unwound_in_turn now olds) now (unwound_in_turn now others)
-turned_on now after olds others old back more places first room leads pushed =
-    turned_back now after olds others old back more places first room leads pushed
+moved_on now after olds others old back more places first room leads pushed =
+    moved_back now after olds others old back more places first room leads pushed
     ∙ sym (ap (λ (l : List State). handed_on l now (unwound_in_turn now others)) (states_first now olds old first))
 
-pub turned_on_valid : (now after : State) (olds others : List OldValues) (old back : OldValues) (more : Buffer OldValues)
+pub moved_on_valid : (now after : State) (olds others : List OldValues) (old back : OldValues) (more : Buffer OldValues)
     (places : ℕ) → Some old ≡ slice_get olds 0 → length olds + length others ≤ places → unwound after back ≡ now
     → more ≡ buffer (take places (back ∷ others)) places → IsValidState now
     → AllByRecursion IsValidState (unwound_in_turn now others)
     → AllByRecursion IsValidState (unwound_in_turn after more.items)
-turned_on_valid now after olds others old back more places first room leads pushed valid rest =
+moved_on_valid now after olds others old back more places first room leads pushed valid rest =
     subst (λ (l : List State). AllByRecursion IsValidState l)
-    (sym (turned_back now after olds others old back more places first room leads pushed)) (valid, rest)
+    (sym (moved_back now after olds others old back more places first room leads pushed)) (valid, rest)

@@ -1,5 +1,5 @@
 pub mod InTurn
 pub mod Unchanged
 pub mod Room
-pub mod TakenBack
+pub mod PastAndFuture
 mod Worked

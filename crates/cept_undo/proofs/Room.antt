@@ -50,7 +50,7 @@ HasRoom-noted {kept} {undone} {spare} {no_more} {back} {begun} {places} m none o
     omega (arith, some_by_first kept old first, ap (λ (l : List OldValues). length l) items, length-drop 1 kept) in
     record {
       edits = ap (λ (b : Buffer OldValues). b.capacity) f ∙ ap (λ (b : Buffer OldValues). b.capacity) e ∙ m.edits;
-      turned = same_places ∙ m.turned;
+      undone_edits = same_places ∙ m.undone_edits;
       deltas = same_back ∙ m.deltas;
       few = omega (arith, m.few, long, ap (λ (l : List OldValues). length l) empty);
       all = omega (arith, m.all, given, long, ap (λ (l : List OldValues). length l) empty);

@@ -1,4 +1,4 @@
--- Worked words of a past and a future, by computing: how many edits are kept, and what a turn hands on.
+-- Worked words of a past and a future, by computing: how many edits are kept, and what an undo or a redo hands on.
 use Rattle.std.proofs.Common.{◌≡◌, [], ◌∷◌, Some, None, refl}
 use Rattle.cept_profile.specs.OldValues.{OldValues}
 use Rattle.cept_profile.specs.State.{State}
@@ -8,7 +8,7 @@ most : most_kept ≡ 64
 most = refl
 
 module _ (now first second behind : State) (values : OldValues) where
-  -- a turn goes to the first state ahead, and where there is none it stays
+  -- an undo or a redo goes to the first state ahead, and where there is none it stays
   ahead : nearest (first ∷ second ∷ []) now ≡ first
   ahead = refl
 

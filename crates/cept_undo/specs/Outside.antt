@@ -6,7 +6,7 @@ use Rattle.cept_repaint.specs.Applied.{IsApplied}
 use Rattle.cept_repaint.specs.GlassState.{GlassState}
 use Rattle.cept_undo.specs.Past.{Edits, StaysUnbegun}
 
--- a command was applied between edits, which is taken back with the latest of them, and none can be made again
+-- a command was applied between edits, which is undone with the latest of them, and none can be redone
 pub record IsAppliedOutside (old : Edits) (before : State) (command : Command) (new : Edits) (after : State)
     (marked : List Bool) (glass_before glass_after : GlassState) (from to : ℕ) : Type 0 where
   pub edits : StaysUnbegun old before new after

@@ -1,5 +1,5 @@
--- The states that taking edits back leads to, and those that making them again leads to (own). Clauses speak of a past and
--- a future by the edits that are kept and undone and the state of the screen.
+-- The states that undoing edits leads to, and those that redoing them leads to (own). Clauses speak of a past and a future
+-- by the edits that are kept and undone and the state of the screen.
 use Rattle.std.specs.Prelude.{ℕ, ◌≡◌, ◌≤◌, ◌+◌, Option, Some, None, IsSome, IsNone, IfSome, List, [], ◌∷◌, length, unwrap_or}
 use Rattle.std.specs.List.{AllByRecursion}
 use Rattle.std.specs.Option.{option_map}
@@ -7,12 +7,12 @@ use Rattle.cept_profile.specs.OldValues.{OldValues, unwound}
 use Rattle.cept_profile.specs.State.{State}
 use Rattle.cept_profile.specs.Valid.{IsValidState}
 
--- how many edits can be taken back at most, and how many taken back and made again together
+-- how many edits can be undone at most, and how many undone and redone together
 abbrev pub most_kept : ℕ
 most_kept = 64
 
--- the old values of each edit that is kept, those of the latest first, those of each edit that was taken back and not made
--- again, the last taken back first, and those of the edit that is begun
+-- the old values of each edit that is kept, those of the latest first, those of each edit that was undone and not redone,
+-- the last undone first, and those of the edit that is begun
 pub record Edits : Type 0 where
   pub kept : List OldValues
   pub undone : List OldValues
@@ -35,12 +35,12 @@ unwound_in_turn now (old ∷ older) = unwound now old ∷ unwound_in_turn (unwou
 unfoldable pub at_begin : Edits → State → Option State
 at_begin edits screen = option_map (unwound screen) edits.begun
 
--- the states that taking back leads to, the latest first, where the screen stands at this one; while an edit is begun,
+-- the states that undoing leads to, the latest first, where the screen stands at this one; while an edit is begun,
 -- those before it
 unfoldable pub past : Edits → State → List State
 past edits screen = unwound_in_turn (unwrap_or (at_begin edits screen) screen) edits.kept
 
--- the states that making again leads to, the nearest first, where the screen stands at this one
+-- the states that redoing leads to, the nearest first, where the screen stands at this one
 unfoldable pub future : Edits → State → List State
 future edits screen = unwound_in_turn screen edits.undone
 
@@ -82,7 +82,7 @@ abbrev pub nearest : List State → State → State
 nearest [] now = now
 nearest (state ∷ _) now = state
 
--- the states on the other side after a turn to the first of these, if there is one: the state before it is the nearest
+-- the states on the other side after an undo or a redo to the first of these, if any: the state before it is the nearest
 abbrev pub handed_on : List State → State → List State → List State
 handed_on [] now other = other
 handed_on (_ ∷ _) now other = now ∷ other
@@ -97,7 +97,7 @@ count_begun (Some _) = 1
 pub record HasRoom (kept : List OldValues) (places : ℕ) (undone : List OldValues) (undone_places : ℕ)
     (begun : Option OldValues) (spare : List OldValues) (spare_places : ℕ) : Type 0 where
   pub edits : places ≡ most_kept
-  pub turned : undone_places ≡ most_kept
+  pub undone_edits : undone_places ≡ most_kept
   pub deltas : spare_places ≡ most_kept + 1
   pub few : length kept + length undone ≤ most_kept
   pub all : length kept + length undone + count_begun begun + length spare ≡ most_kept + 1

@@ -1,8 +1,7 @@
-//! Edits of a screen that can be taken back and made again. It knows no bytes, no scripts and no
-//! lines.
+//! Edits of a screen that can be undone and redone. It knows no bytes, no scripts and no lines.
 #![tactic(auto)]
 
-mod turn;
+mod rings;
 mod undo;
 
 pub use undo::{Redone, Undo, Undone};

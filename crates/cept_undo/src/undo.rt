@@ -6,9 +6,9 @@ ghost use Rattle.cept_repaint.specs.Applied.{IsApplied};
 ghost use Rattle.cept_undo.specs.Past.{FitsTogether, IsBegun, IsBetweenEdits, IsNotBegun, IsWithinEdit};
 ghost use Rattle.cept_undo.specs.Outside.{IsAppliedOutside};
 ghost use Rattle.cept_undo.specs.Past.{StaysBegun, at_begin, future, most_kept, past};
-ghost use Rattle.cept_undo.specs.Turned.{PaintsTurn, TouchesNothing, TurnsTo};
+ghost use Rattle.cept_undo.specs.UndoRedo.{MovesEdit, PaintsUndoRedo, TouchesNothing};
 
-use crate::turn::{give_back, take_free, turn};
+use crate::rings::{give_back, move_edit, take_free};
 use cept_codes::{Command, NoMemory};
 use cept_outside::Steps;
 use cept_repaint::{Delta, Glass, Marks, Screen};
@@ -20,27 +20,27 @@ use std::sync::ledger::Ledger;
 /// How many edits are kept at most.
 const MOST_KEPT: usize = 64;
 
-/// Whether an edit was taken back, or none was kept.
+/// Whether an edit was undone, or none was kept.
 #[derive(Clone, Copy, PartialEq, Eq, Debug)]
 pub enum Undone {
-    /// The latest kept edit was taken back.
+    /// The latest kept edit was undone.
     Undone,
     /// No edit was kept.
     Nothing,
 }
 
-/// Whether an edit was made again, or none was undone.
+/// Whether an edit was redone, or none was undone.
 #[derive(Clone, Copy, PartialEq, Eq, Debug)]
 pub enum Redone {
-    /// The edit that was taken back last was made again.
+    /// The edit that was undone last was redone.
     Redone,
     /// No edit was undone.
     Nothing,
 }
 
-/// The last 64 edits of a screen, those of them that were taken back and may be made again, and the
-/// edit that is begun, each by the values of what it changed: a kept edit by the old ones, an undone
-/// one by the new ones. Room for all of them is made at the start.
+/// The last 64 edits of a screen, those of them that were undone and may be redone, and the edit that
+/// is begun, each by the values of what it changed: a kept edit by the old ones, an undone one by the
+/// new ones. Room for all of them is made at the start.
 #[derive(Drop)]
 pub struct Undo {
     kept: HeapCircularBuffer<Delta>,
@@ -83,7 +83,7 @@ impl Undo {
         })
     }
 
-    /// Begins an edit at the screen's state. What was undone can't be made again.
+    /// Begins an edit at the screen's state. What was undone can't be redone.
     pub fn begin(&mut self, screen: &Screen)
         requires between { IsBetweenEdits self.old screen.now }
         ensures past { past self.new screen.now ≡ past self.old screen.now }
@@ -120,8 +120,8 @@ impl Undo {
     }
 
     /// Applies a command outside all edits, marks and paints as the screen does. The latest kept edit
-    /// takes it up, so that it is taken back with that edit; where none is kept, no undo takes it
-    /// back. What was undone can't be made again, as after a new edit.
+    /// takes it up, so that it is undone with that edit; where none is kept, no undo reaches it.
+    /// What was undone can't be redone, as after a new edit.
     #[inline(always)]
     pub fn apply_outside<G: Glass, L: Ledger>(
         &mut self,
@@ -194,9 +194,9 @@ impl Undo {
         }
     }
 
-    /// Takes the latest kept edit back: brings the state before it, marks exactly the places whose
-    /// look changes, and paints each of them once, in reading order, with its new look. The edit can
-    /// then be made again. Where none is kept, nothing is touched.
+    /// Undoes the latest kept edit: brings the state before it, marks exactly the places whose look
+    /// changes, and paints each of them once, in reading order, with its new look. The edit can then
+    /// be redone. Where none is kept, nothing is touched.
     pub fn undo<G: Glass, L: Ledger>(
         &mut self,
         screen: &mut Screen,
@@ -205,10 +205,10 @@ impl Undo {
         steps: &mut Steps<L>,
     ) -> Undone
         requires between { IsBetweenEdits self.old screen.old }
-        ensures turns { TurnsTo (past self.old screen.old) (future self.old screen.old)
+        ensures moves { MovesEdit (past self.old screen.old) (future self.old screen.old)
             screen.old (past self.new screen.new) (future self.new screen.new) screen.new }
         ensures between { IsBetweenEdits self.new screen.new }
-        ensures paints { PaintsTurn screen.old screen.new marks.new (G.state glass.old)
+        ensures paints { PaintsUndoRedo screen.old screen.new marks.new (G.state glass.old)
             (G.state glass.new) steps.old steps.new }
 
         // Where no edit is kept.
@@ -217,7 +217,7 @@ impl Undo {
         ensures untouched { result ≡ Undone.Nothing → TouchesNothing screen.old screen.new
             glass.old glass.new marks.new steps.old steps.new }
     {
-        if turn(
+        if move_edit(
             &mut self.kept,
             &mut self.undone,
             screen,
@@ -231,9 +231,9 @@ impl Undo {
         }
     }
 
-    /// Makes the edit again that was taken back last: brings the state after it, marks exactly the
-    /// places whose look changes, and paints each of them once, in reading order, with its new look.
-    /// The edit is then the latest kept one. Where none is undone, nothing is touched.
+    /// Redoes the edit that was undone last: brings the state after it, marks exactly the places whose
+    /// look changes, and paints each of them once, in reading order, with its new look. The edit is
+    /// then the latest kept one. Where none is undone, nothing is touched.
     pub fn redo<G: Glass, L: Ledger>(
         &mut self,
         screen: &mut Screen,
@@ -242,10 +242,10 @@ impl Undo {
         steps: &mut Steps<L>,
     ) -> Redone
         requires between { IsBetweenEdits self.old screen.old }
-        ensures turns { TurnsTo (future self.old screen.old) (past self.old screen.old)
+        ensures moves { MovesEdit (future self.old screen.old) (past self.old screen.old)
             screen.old (future self.new screen.new) (past self.new screen.new) screen.new }
         ensures between { IsBetweenEdits self.new screen.new }
-        ensures paints { PaintsTurn screen.old screen.new marks.new (G.state glass.old)
+        ensures paints { PaintsUndoRedo screen.old screen.new marks.new (G.state glass.old)
             (G.state glass.new) steps.old steps.new }
 
         // Where no edit is undone.
@@ -254,7 +254,7 @@ impl Undo {
         ensures untouched { result ≡ Redone.Nothing → TouchesNothing screen.old screen.new
             glass.old glass.new marks.new steps.old steps.new }
     {
-        if turn(
+        if move_edit(
             &mut self.undone,
             &mut self.kept,
             screen,
@@ -276,7 +276,7 @@ impl Undo {
         self.kept.len() as u32
     }
 
-    /// How many edits are undone and can be made again, at most 64, and as many as are kept less.
+    /// How many edits are undone and can be redone, at most 64, and as many as are kept less.
     pub fn undone(&self) -> u32
         ensures future { (screen : State) → result ≡ length (future self.now screen) }
         ensures at_most_64 { result ≤ 64 }

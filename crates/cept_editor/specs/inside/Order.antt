@@ -6,7 +6,7 @@ use Rattle.cept_codes.specs.declared.line_reason.LineReason.{LineReason}
 use Rattle.cept_editor.specs.declared.order.Order.{Order}
 use Rattle.cept_editor.specs.declared.order.Order.TheVariants as orders
 use Rattle.cept_editor.specs.declared.places.Span.{Span}
-use Rattle.cept_editor.specs.Meaning.{Step, Turn}
+use Rattle.cept_editor.specs.Meaning.{Step, UndoRedo}
 use Rattle.cept_editor.specs.Order.{command_of, order_step, IsSoundOrder}
 
 -- the place of bytes that end there in a script
@@ -15,7 +15,7 @@ place_before end bytes = record { start = end - length bytes; end = end }
 
 -- an order without bytes, whose command is valid if it has one
 abbrev pub IsPlainOrder : Order → Type 0
-IsPlainOrder (orders.Turn turn) = Unit {0}
+IsPlainOrder (orders.UndoRedo which) = Unit {0}
 IsPlainOrder (orders.One brief) = IsValidCommand (command_of brief)
 IsPlainOrder (orders.Text span) = ⊥
 IsPlainOrder (orders.Raw span) = ⊥

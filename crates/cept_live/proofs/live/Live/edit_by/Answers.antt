@@ -19,7 +19,7 @@ returns g c =
     (ap (λ (l : LiveState). l.parser.finished) c.self.view_is ∙ c.requires.ready.finished) c.requires.ready.enough refl refl
     (omega (arith, c.tell_marked-notices.ensures.most))
     (c.make.ensures.made ∙ ap (λ (e : EditorState). editor_after_step e (Edit c.args.commands)) before)
-    (λ turn same. absurd cc) c.requires.valid c.requires.some
+    (λ which same. absurd cc) c.requires.valid c.requires.some
     (c.make.ensures.changed
     ∙ ap (λ (m : List Bool). marked_with m (change_sayings 0 (changes_in_turn screen c.args.commands))) c.new-changed.ensures)
     (rw c.place.ensures at c.tell_marked-notices.ensures.tells) (rw c.place.ensures at c.tell_marked-notices.ensures.renews))

@@ -1,7 +1,7 @@
 use Rattle.std.proofs.Common.{refl, sym, ap, ◌∙◌}
 use Rattle.std.specs.Prelude.{is_some}
 use Rattle.cept_undo.specs.Past.{Edits}
-use Rattle.cept_undo.proofs.TakenBack.{StaysBegun-noted}
+use Rattle.cept_undo.proofs.PastAndFuture.{StaysBegun-noted}
 use Rattle.cept_undo.proofs.undo.Undo.apply.Goals as goal
 
 pub returns-clause-edit : goal.returns-clause-edit

@@ -1,4 +1,4 @@
-use Rattle.cept_undo.proofs.TakenBack.{FitsTogether-none, future-none, past-none}
+use Rattle.cept_undo.proofs.PastAndFuture.{FitsTogether-none, future-none, past-none}
 use Rattle.std.proofs.Common.{rules, sym, ◌∙◌}
 use Rattle.cept_undo.proofs.undo.Undo.apply_outside.Goals as goal
 

@@ -4,7 +4,7 @@ use Rattle.circular_buffer.specs.Buffer.{Buffer}
 use Rattle.cept_undo.specs.Past.{Edits, StaysUnbegun, future, past}
 use Rattle.cept_undo.proofs.InTurn.{first_and_rest, none_first}
 use Rattle.cept_undo.proofs.Room.{HasRoom-noted, latest_noted}
-use Rattle.cept_undo.proofs.TakenBack.{FitsTogether-none, FitsTogether-same, future-none, past-none, past-noted, still_none}
+use Rattle.cept_undo.proofs.PastAndFuture.{FitsTogether-none, FitsTogether-same, future-none, past-none, past-noted, still_none}
 use Rattle.cept_undo.proofs.undo.Undo.apply_to_latest.Goals as goal
 use Rattle.cept_undo.proofs.undo.Undo.apply_to_latest.Goals.{in-Some-1, in-None-1}
 

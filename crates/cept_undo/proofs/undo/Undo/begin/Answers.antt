@@ -1,6 +1,6 @@
 use Rattle.std.proofs.Common.{refl, ap}
 use Rattle.cept_undo.specs.Past.{Edits}
-use Rattle.cept_undo.proofs.TakenBack.{FitsTogether-begin, at_begin-begin, future-none, past-begin}
+use Rattle.cept_undo.proofs.PastAndFuture.{FitsTogether-begin, at_begin-begin, future-none, past-begin}
 use Rattle.cept_undo.proofs.undo.Undo.begin.Goals as goal
 
 pub returns-clause-past : goal.returns-clause-past

@@ -3,7 +3,7 @@ use Rattle.std.specs.Prelude.{IsNone, is_some}
 use Rattle.cept_profile.specs.OldValues.{OldValues}
 use Rattle.cept_undo.specs.Past.{Edits, FitsTogether, future, most_kept, past}
 use Rattle.cept_undo.proofs.Room.{kept_more}
-use Rattle.cept_undo.proofs.TakenBack.{FitsTogether-commit, future-none, past-commit}
+use Rattle.cept_undo.proofs.PastAndFuture.{FitsTogether-commit, future-none, past-commit}
 use Rattle.cept_undo.proofs.undo.Undo.commit.Goals as goal
 use Rattle.cept_undo.proofs.undo.Undo.commit.Goals.{in-Some-1, in-None-1}
 

@@ -1,6 +1,6 @@
 use Rattle.std.proofs.Common.{length, sym, ap, ◌∙◌}
 use Rattle.cept_undo.specs.Past.{Edits}
-use Rattle.cept_undo.proofs.TakenBack.{length-past}
+use Rattle.cept_undo.proofs.PastAndFuture.{length-past}
 use Rattle.cept_undo.proofs.undo.Undo.kept.Goals as goal
 
 pub returns-clause-past : goal.returns-clause-past

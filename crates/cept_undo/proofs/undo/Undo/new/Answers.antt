@@ -1,7 +1,7 @@
 use Rattle.std.proofs.Common.{refl, ap}
 use Rattle.cept_profile.specs.OldValues.{OldValues}
 use Rattle.circular_buffer.specs.Buffer.{Buffer}
-use Rattle.cept_undo.proofs.TakenBack.{FitsTogether-none, future-none, past-none}
+use Rattle.cept_undo.proofs.PastAndFuture.{FitsTogether-none, future-none, past-none}
 use Rattle.cept_undo.proofs.undo.Undo.new.Goals as goal
 
 pub returns-clause-past : goal.returns-clause-past

@@ -1,6 +1,6 @@
 use Rattle.std.proofs.Common.{length, sym, ap, ◌∙◌, arith}
 use Rattle.cept_undo.specs.Past.{Edits}
-use Rattle.cept_undo.proofs.TakenBack.{length-future, length-past}
+use Rattle.cept_undo.proofs.PastAndFuture.{length-future, length-past}
 use Rattle.cept_undo.proofs.undo.Undo.undone.Goals as goal
 
 pub returns-clause-future : goal.returns-clause-future

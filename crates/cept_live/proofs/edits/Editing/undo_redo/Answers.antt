@@ -4,11 +4,11 @@ use Rattle.cept_profile.specs.Look.{looks_of}
 use Rattle.cept_profile.specs.State.{core_of}
 use Rattle.cept_live.specs.Notices.{change_sayings}
 use Rattle.cept_live.specs.Renewed.{marked_with}
-use Rattle.cept_live.proofs.edits.Editing.turn.Goals as goal
+use Rattle.cept_live.proofs.edits.Editing.undo_redo.Goals as goal
 
 pub returns-clause-changed : goal.returns-clause-changed
 returns-clause-changed g c =
-    let h = looks_of (core_of c.turn_screen-turned.new.screen) in
+    let h = looks_of (core_of c.undo_redo_screen-moved.new.screen) in
     c.add_marks.ensures 0 h
     ∙ ap (λ (m : List Bool). marked_with c.args.changed.now (change_sayings 0 (marked_looks m h)))
-    c.turn_screen-turned.ensures.marks
+    c.undo_redo_screen-moved.ensures.marks

@@ -1,5 +1,5 @@
--- Edits that are begun, noted in, kept, taken back and made again: the past, the future, the state at the begin, and that all
--- of them stay valid.
+-- Edits that are begun, noted in, kept, undone and redone: the past, the future, the state at the begin, and that all of them
+-- stay valid.
 use Rattle.std.proofs.Common.{◌≡◌, ℕ, Option, Some, None, List, [], ◌∷◌, take, length}
 use Rattle.std.proofs.Common.{refl, sym, ap, subst, ◌∙◌}
 use Rattle.std.specs.List.{AllByRecursion}

@@ -4,39 +4,39 @@ use Rattle.cept_profile.specs.OldValues.{OldValues}
 use Rattle.cept_profile.specs.State.{State, core_of}
 use Rattle.circular_buffer.specs.Buffer.{Buffer}
 use Rattle.cept_undo.specs.Past.{handed_on, nearest, unwound_in_turn}
-use Rattle.cept_undo.proofs.InTurn.{empty_in_turn, nearest_valid, none_first, turned_from, turned_from_valid, turned_on}
-use Rattle.cept_undo.proofs.InTurn.{turned_on_valid, turned_to}
+use Rattle.cept_undo.proofs.InTurn.{empty_in_turn, moved_from, moved_from_valid, moved_on, moved_on_valid, moved_to}
+use Rattle.cept_undo.proofs.InTurn.{nearest_valid, none_first}
 use Rattle.cept_undo.proofs.Unchanged.{differences-same, rows_renewed-same, shown-same, told-same}
-use Rattle.cept_undo.proofs.turn.turn.Goals as goal
+use Rattle.cept_undo.proofs.rings.move_edit.Goals as goal
 
 pub exchange-requires : goal.exchange-requires
 exchange-requires g c =
     nearest_valid c.args.screen.now c.args.from.now.items c.in-Some.delta c.in-Some.ensures.value c.requires.valid
 
-pub returns-in-Some-clause-turns : goal.returns-in-Some-clause-turns
-returns-in-Some-clause-turns g c = record {
-  state = turned_to c.args.screen.now c.exchange.new.self c.args.from.now.items c.in-Some.delta c.in-Some.ensures.value
+pub returns-in-Some-clause-moves : goal.returns-in-Some-clause-moves
+returns-in-Some-clause-moves g c = record {
+  state = moved_to c.args.screen.now c.exchange.new.self c.args.from.now.items c.in-Some.delta c.in-Some.ensures.value
       c.exchange.ensures.state;
-  rest = turned_from c.args.screen.now c.exchange.new.self c.args.from.now.items c.in-Some.delta c.pop_front.new.self
+  rest = moved_from c.args.screen.now c.exchange.new.self c.args.from.now.items c.in-Some.delta c.pop_front.new.self
       c.args.from.now.capacity c.in-Some.ensures.value c.exchange.ensures.state c.pop_front.ensures.items;
-  others = turned_on c.args.screen.now c.exchange.new.self c.args.from.now.items c.args.to.now.items c.in-Some.delta
+  others = moved_on c.args.screen.now c.exchange.new.self c.args.from.now.items c.args.to.now.items c.in-Some.delta
       c.exchange.new.delta c.push_front.new.self c.args.to.now.capacity c.in-Some.ensures.value c.requires.room
       c.exchange.ensures.unwound c.push_front.ensures.items;
 }
 
 pub returns-in-Some-clause-valid : goal.returns-in-Some-clause-valid
 returns-in-Some-clause-valid g c =
-    turned_from_valid c.args.screen.now c.exchange.new.self c.args.from.now.items c.in-Some.delta c.pop_front.new.self
+    moved_from_valid c.args.screen.now c.exchange.new.self c.args.from.now.items c.in-Some.delta c.pop_front.new.self
     c.args.from.now.capacity c.in-Some.ensures.value c.exchange.ensures.state c.pop_front.ensures.items c.requires.valid
 
 pub returns-in-Some-clause-valid_back : goal.returns-in-Some-clause-valid_back
 returns-in-Some-clause-valid_back g c =
-    turned_on_valid c.args.screen.now c.exchange.new.self c.args.from.now.items c.args.to.now.items c.in-Some.delta
+    moved_on_valid c.args.screen.now c.exchange.new.self c.args.from.now.items c.args.to.now.items c.in-Some.delta
     c.exchange.new.delta c.push_front.new.self c.args.to.now.capacity c.in-Some.ensures.value c.requires.room
     c.exchange.ensures.unwound c.push_front.ensures.items c.exchange.ensures.was_valid c.requires.valid_back
 
-pub returns-in-None-clause-turns : goal.returns-in-None-clause-turns
-returns-in-None-clause-turns g c = record {
+pub returns-in-None-clause-moves : goal.returns-in-None-clause-moves
+returns-in-None-clause-moves g c = record {
   state = sym (ap (λ (l : List State). nearest l c.args.screen.now)
       (empty_in_turn c.args.screen.now c.args.from.now.items
       (none_first c.args.from.now.items c.in-None.ensures.value)));

@@ -2,17 +2,17 @@ ghost use Rattle.std.specs.Prelude.{◌≡◌, ◌≤◌, ◌<◌, ◌+◌, ◌�
 ghost use Rattle.std.specs.List.{AllByRecursion};
 ghost use Rattle.cept_profile.specs.Valid.{IsValidState};
 ghost use Rattle.cept_undo.specs.Past.{unwound_in_turn};
-ghost use Rattle.cept_undo.specs.Turned.{PaintsTurn, TouchesNothing, TurnsTo};
+ghost use Rattle.cept_undo.specs.UndoRedo.{MovesEdit, PaintsUndoRedo, TouchesNothing};
 
 use cept_outside::Steps;
 use cept_repaint::{Delta, Glass, Marks, Screen};
 use circular_buffer::HeapCircularBuffer;
 use std::sync::ledger::Ledger;
 
-/// Turns the screen to the nearest of the states to which the deltas of one side lead, and hands the
-/// first of them on to the other side, from which it leads back. Where there is none, nothing is
-/// touched. Answers whether there was one.
-pub(crate) fn turn<G: Glass, L: Ledger>(
+/// Moves the nearest edit of one ring to the other: brings the screen to the state to which its delta
+/// leads, and hands the delta on, which then leads back. Where there is none, nothing is touched.
+/// Answers whether there was one.
+pub(crate) fn move_edit<G: Glass, L: Ledger>(
     from: &mut HeapCircularBuffer<Delta>,
     to: &mut HeapCircularBuffer<Delta>,
     screen: &mut Screen,
@@ -23,7 +23,7 @@ pub(crate) fn turn<G: Glass, L: Ledger>(
     requires room { length from.old.items + length to.old.items ≤ to.old.capacity }
     requires valid { AllByRecursion IsValidState (unwound_in_turn screen.old from.old.items) }
     requires valid_back { AllByRecursion IsValidState (unwound_in_turn screen.old to.old.items) }
-    ensures turns { TurnsTo (unwound_in_turn screen.old from.old.items)
+    ensures moves { MovesEdit (unwound_in_turn screen.old from.old.items)
         (unwound_in_turn screen.old to.old.items) screen.old
         (unwound_in_turn screen.new from.new.items) (unwound_in_turn screen.new to.new.items)
         screen.new }
@@ -33,7 +33,7 @@ pub(crate) fn turn<G: Glass, L: Ledger>(
         ≡ length from.old.items + length to.old.items }
     ensures from_places { from.new.capacity ≡ from.old.capacity }
     ensures to_places { to.new.capacity ≡ to.old.capacity }
-    ensures paints { PaintsTurn screen.old screen.new marks.new (G.state glass.old)
+    ensures paints { PaintsUndoRedo screen.old screen.new marks.new (G.state glass.old)
         (G.state glass.new) steps.old steps.new }
 
     // Where there is none.
@@ -56,7 +56,7 @@ pub(crate) fn turn<G: Glass, L: Ledger>(
     }
 }
 
-/// Takes an undone delta, which can't be made again, and where there is none a spare one.
+/// Takes the delta of an undone edit, which then can't be redone, and where there is none a spare one.
 pub(crate) fn take_free(
     undone: &mut HeapCircularBuffer<Delta>,
     spare: &mut HeapCircularBuffer<Delta>,
@@ -73,7 +73,7 @@ pub(crate) fn take_free(
     }
 }
 
-/// Gives all deltas of one side back to the spare ones.
+/// Gives all deltas of undone edits back to the spare ones.
 pub(crate) fn give_back(
     undone: &mut HeapCircularBuffer<Delta>,
     spare: &mut HeapCircularBuffer<Delta>,
