@@ -3,7 +3,7 @@
 -- names of shifts and designations those of ISO 2022, names of control sequences those that the field uses. The other
 -- names, the parameters and the form of a line are this project's own. No two kinds of items have the same name.
 -- Numbers are decimal, codes are column/row.
-use Rattle.std.specs.Prelude.{ℕ, ◌+◌, ◌/◌, ◌%◌, Bool, List, [], ◌∷◌, ◌++◌, codes, decimal, if◌then◌else◌}
+use Rattle.std.specs.Prelude.{ℕ, ◌+◌, ◌/◌, ◌%◌, List, [], ◌∷◌, ◌++◌, codes, decimal, if◌then◌else◌}
 use Rattle.cept_codes.specs.declared.command.C1Set.{C1Set}
 use Rattle.cept_codes.specs.declared.command.C1Set.TheVariants as c1_sets
 use Rattle.cept_codes.specs.declared.command.Command.{Command}
@@ -28,10 +28,6 @@ c1_text n = code_text (0x80 + n)
 abbrev pub c1_set_text : C1Set → List ℕ
 c1_set_text c1_sets.Serial = codes "serial"
 c1_set_text c1_sets.Parallel = codes "parallel"
-
--- one text or another
-abbrev pub either : Bool → List ℕ → List ℕ → List ℕ
-either flag one other = if flag then one else other
 
 -- the name of a command and its parameters. A C1 code has its name in the serial set and that in the parallel one,
 -- since the set in force is no part of its bytes
@@ -63,24 +59,25 @@ command_text (commands.FlashMode k) = name_of flash_names k
 command_text commands.StopConceal = codes "STC"
 command_text commands.ScrollUp = codes "SCU"
 command_text commands.ScrollDown = codes "SCD"
-command_text (commands.Implicit on) = either on (codes "AIS") (codes "DIS")
-command_text (commands.Protect on) = either on (codes "PMS") (codes "PMC")
-command_text (commands.Marked on) = either on (codes "MMS") (codes "MMT")
+command_text (commands.Implicit on) = if on then codes "AIS" else codes "DIS"
+command_text (commands.Protect on) = if on then codes "PMS" else codes "PMC"
+command_text (commands.Marked on) = if on then codes "MMS" else codes "MMT"
 command_text (commands.AreaCreate a b) = spaced (codes "CSA" ∷ decimal a ∷ decimal b ∷ [])
 command_text (commands.AreaDelete a b) = spaced (codes "DSA" ∷ decimal a ∷ decimal b ∷ [])
 command_text (commands.FullScreen n) = spaced (codes "SCREEN" ∷ c1_text n ∷ name_of parallel_names n ∷ [])
 command_text (commands.FullRow n) = spaced (codes "ROW" ∷ c1_text n ∷ name_of parallel_names n ∷ [])
-command_text (commands.ColourHeader d) = spaced (codes "COLOUR-HEADER" ∷ either d (codes "dclut") (codes "table") ∷ [])
+command_text (commands.ColourHeader d) =
+    spaced (codes "COLOUR-HEADER" ∷ (if d then codes "dclut" else codes "table") ∷ [])
 command_text commands.ColourDefaults = codes "COLOUR-DEFAULTS"
 command_text (commands.ColourStart i) = spaced (codes "COLOUR-START" ∷ decimal i ∷ [])
 command_text (commands.Entry i c) = spaced (codes "COLOUR" ∷ decimal i ∷ paint_text (paints.Ink c) ∷ [])
 command_text (commands.Dclut i v) = spaced (codes "DCLUT" ∷ decimal i ∷ decimal v ∷ [])
 command_text (commands.DrcsHeader d f) =
-    spaced (codes "DRCS-HEADER" ∷ either d (codes "delete") (codes "keep") ∷ form_text f.w f.h f.planes ∷ [])
+    spaced (codes "DRCS-HEADER" ∷ (if d then codes "delete" else codes "keep") ∷ form_text f.w f.h f.planes ∷ [])
 command_text (commands.DrcsStart c) = spaced (codes "DRCS-START" ∷ code_text c ∷ [])
 command_text (commands.DrcsPattern c p) = spaced (codes "DRCS" ∷ code_text c ∷ form_text p.w p.h p.planes ∷ [])
 command_text (commands.Format r w) =
-    spaced (codes "FORMAT" ∷ decimal r ∷ either w (codes "wrap") (codes "no-wrap") ∷ [])
+    spaced (codes "FORMAT" ∷ decimal r ∷ (if w then codes "wrap" else codes "no-wrap") ∷ [])
 command_text (commands.ServiceBreak r) = spaced (codes "SERVICE-BREAK" ∷ decimal r ∷ [])
 command_text commands.ServiceEnd = codes "SERVICE-END"
 command_text (commands.FullDefaults s) = spaced (codes "FULL-DEFAULTS" ∷ c1_set_text s ∷ [])

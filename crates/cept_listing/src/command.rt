@@ -4,7 +4,7 @@ ghost use Rattle.std.specs.Prelude.{◌≡◌, ◌+◌, ◌≤◌, ◌∷◌, []
 ghost use Rattle.cept_codes.specs.Command.{IsValidCommand, IsValidForm};
 ghost use Rattle.cept_codes.specs.Look.{IsValidPattern};
 ghost use Rattle.std.specs.Prelude.{codes, if◌then◌else◌};
-ghost use Rattle.cept_listing.specs.Listing.{code_text, command_text, either};
+ghost use Rattle.cept_listing.specs.Listing.{code_text, command_text};
 ghost use Rattle.cept_report.specs.Room.{Adds, HasRoomFor};
 ghost use Rattle.cept_report.specs.Text.{form_text, spaced};
 
@@ -21,7 +21,7 @@ fn add_drcs_header(line: &mut Line, deletes: bool, form: &Form)
     requires room { HasRoomFor 32 line.old }
     requires valid { IsValidForm form.now }
     ensures { Adds line.old 26 (spaced (codes "DRCS-HEADER"
-        ∷ either deletes (codes "delete") (codes "keep")
+        ∷ (if deletes then codes "delete" else codes "keep")
         ∷ form_text form.now.w form.now.h form.now.planes ∷ [])) line.new }
 {
     add_either(line, b"DRCS-HEADER", deletes, b"delete", b"keep");

@@ -1,12 +1,13 @@
 //! Names with their parameters, each added to a line.
 
 ghost use Rattle.std.specs.Prelude.{◌≡◌, ◌+◌, ◌≤◌, ◌<◌, ◌∷◌, [], ◌++◌, length, decimal, codes};
+ghost use Rattle.std.specs.Prelude.{if◌then◌else◌};
 ghost use Rattle.arrayvec.specs.ArrayVec.{array_vec_len};
 ghost use Rattle.cept_codes.specs.Look.{IsValidRgb};
 ghost use Rattle.cept_codes.specs.declared.look.Paint.TheVariants as paints;
 ghost use Rattle.cept_report.specs.Room.{Adds, HasRoomFor};
 ghost use Rattle.cept_report.specs.Text.{form_text, paint_text, set_letter, spaced};
-ghost use Rattle.cept_listing.specs.Listing.{c1_set_text, c1_text, code_text, either};
+ghost use Rattle.cept_listing.specs.Listing.{c1_set_text, c1_text, code_text};
 ghost use Rattle.cept_listing.specs.Names.{designation_names, name_of, parallel_names};
 ghost use Rattle.cept_listing.specs.Names.{serial_names};
 
@@ -41,7 +42,7 @@ pub fn add_either(line: &mut Line, name: &[u8], flag: bool, one: &[u8], other: &
     requires one { length one.now ≤ 6 }
     requires other { length other.now ≤ 6 }
     ensures { Adds line.old (length name.now + 7)
-        (spaced (name.now ∷ either flag one.now other.now ∷ [])) line.new }
+        (spaced (name.now ∷ (if flag then one.now else other.now) ∷ [])) line.new }
 {
     if flag {
         add_word(line, name, one);

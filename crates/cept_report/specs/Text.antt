@@ -158,7 +158,7 @@ refusal_line place size reason =
 abbrev pub check_line : ℕ → ℕ → List ℕ
 check_line items refused = line_of (codes "items" ∷ decimal items ∷ codes "refused" ∷ decimal refused ∷ [])
 
--- the line of an undo where no edit can be taken back, or of a redo where none is undone: its number and a word
+-- the line of an undo where no edit can be undone, or of a redo where none is undone: its number and a word
 abbrev pub nothing_line : ℕ → List ℕ
 nothing_line line = line_of (decimal line ∷ codes "nothing" ∷ [])
 

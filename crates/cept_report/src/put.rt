@@ -21,7 +21,7 @@ use crate::look::add_fields;
 use crate::signs::row_line;
 use cept_codes::{LineReason, Look, Pos, Reason};
 use cept_outside::{Sink, WriteFault, put_all};
-use cept_repaint::{Glass, Marks, Screen};
+use cept_repaint::{Glass, Marks, Screen, shown_look};
 use itoa::Buffer;
 
 /// Puts the line of refused bytes: the place of the first, their number, and the reason. After
@@ -149,7 +149,7 @@ pub fn put_cells<T: Sink, G: Glass>(sink: &mut T, glass: &G, rows: u8) -> Result
 {
     for n in 0..40 * u16::from(rows) {
         let at = Pos::from_number(n).unwrap();
-        put_all(sink, cell_text(at, &glass.shown(at)).as_slice())?;
+        put_all(sink, cell_text(at, &shown_look(glass, at)).as_slice())?;
     }
     Ok(())
 }

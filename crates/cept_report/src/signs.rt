@@ -8,7 +8,7 @@ ghost use Rattle.cept_report.specs.Screen.{look_sign, row_line, shape_sign};
 use crate::line::{Line, add_byte, add_text};
 use cept_charsets::unicode_of;
 use cept_codes::{Look, Pos, Shape};
-use cept_repaint::Glass;
+use cept_repaint::{Glass, shown_look};
 
 #[tactic(auto, unfolding(crate::specs::Screen::shape_sign))]
 fn add_shape_sign(line: &mut Line, shape: &Shape)
@@ -52,7 +52,7 @@ pub fn row_line<G: Glass>(glass: &G, row: u8) -> Line
 {
     let mut line = Line::new();
     for i in 0..40u8 {
-        add_look_sign(&mut line, &glass.shown(place(row, i + 1)));
+        add_look_sign(&mut line, &shown_look(glass, place(row, i + 1)));
     }
     add_byte(&mut line, b'\n');
     line

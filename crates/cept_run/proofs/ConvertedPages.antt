@@ -22,9 +22,10 @@ use Rattle.cept_run.specs.declared.run.Status.{Status}
 use Rattle.cept_run.specs.declared.run.Status.TheVariants as statuses
 use Rattle.cept_run.specs.declared.words.BytesAction.{BytesAction}
 use Rattle.cept_run.specs.declared.words.BytesAction.TheVariants as actions
-use Rattle.cept_run.specs.Course.{Course, File, Gives, SelectsNoOther, conversion_course, text_event}
+use Rattle.cept_run.specs.Course.{Course, File, Gives, SelectsNoOther, course_of, text_event}
 use Rattle.cept_run.specs.Outside.{Outside, outside_of, output, AreAllTaken, PutsWhole, PutsUnflushed}
 use Rattle.cept_run.specs.Page.{KeepsShelf}
+use Rattle.cept_run.specs.Words.{Bytes}
 use Rattle.cept_run.specs.Run.{EndsWhole, IsReportCut, IsUnreadable, Ends, ReportsFirst, ReportsFront, RunsCourse}
 use Rattle.cept_run.specs.Run.{status_at_end}
 use Rattle.cept_run.specs.Converted.{converted, converted_front, readable_front, can_end_there}
@@ -92,7 +93,7 @@ module _ (before after : Outside) (text : List ℕ) (same : after.glass ≡ befo
 
 module _ (action : BytesAction) (name : List ℕ) (before : Outside) where
   abbrev course : Course
-  course = conversion_course action name
+  course = course_of (Bytes action name)
 
   reports_front : (after : Outside) (front : List ℕ) → after.glass ≡ before.glass
       → Gains before.sink (converted_front action front) after.sink → ReportsFront course front before after
@@ -134,7 +135,7 @@ module _ (action : BytesAction) (name : List ℕ) (before : Outside) where
     sink_stays = λ other. refl;
     script_first = tt;
     unpainted = λ idle. refl;
-    unflushed = λ early. HasPut-nothing before.sink;
+    unflushed = λ early other. HasPut-nothing before.sink;
     room = refl;
     sink_faults = omega arith;
   }

@@ -8,9 +8,9 @@ use Rattle.std.specs.List.{enumerate_from, flat_map}
 use Rattle.cept_codes.specs.declared.command.Command.{Command}
 use Rattle.cept_codes.specs.declared.item.Item.{Item}
 use Rattle.cept_editor.specs.Events.{Event}
-use Rattle.cept_editor.specs.Kept.{KeptEdits, none_kept, kept, finds_nothing, kept_after, kept_after_turn, remaining}
+use Rattle.cept_editor.specs.Kept.{KeptEdits, none_kept, kept, finds_nothing, kept_after, kept_after_undo_redo, remaining}
 use Rattle.cept_editor.specs.Kept.{commands_of_edits}
-use Rattle.cept_editor.specs.Meaning.{Step, Turn, Edit}
+use Rattle.cept_editor.specs.Meaning.{Step, UndoRedo, Edit}
 use Rattle.cept_editor.specs.Script.{EditLine}
 use Rattle.cept_editor.specs.Stepping.{event_from, nothing_event, edit_events, line_events}
 use Rattle.cept_editor.proofs.Laws.{kept-none, kept-more, remaining-none}
@@ -149,20 +149,20 @@ edit_chained listed line earlier commands =
     (earlier ++ h)) (ap (λ k. take k commands) from_none ∙ take_all (length commands) commands (omega arith))
     (commands_chained listed line 0 earlier commands commands))
 
--- a turn, where it finds something or not
-turn_chained : (listed : Bool) (line : ℕ) (page : List Command) (k taken : KeptEdits) (none : Bool)
+-- an undo or a redo, where it finds something or not
+undo_redo_chained : (listed : Bool) (line : ℕ) (page : List Command) (k taken : KeptEdits) (none : Bool)
     → AreChained (remaining page k)
     ((cond none (nothing_event listed line (remaining page k))
     (event_from listed line (remaining page k) (remaining page (cond none k taken)))) ∷ [])
     (remaining page (cond none k taken))
 unfolding AreChained
-turn_chained listed line page k taken true = (refl, refl)
-turn_chained listed line page k taken false = (refl, refl)
+undo_redo_chained listed line page k taken true = (refl, refl)
+undo_redo_chained listed line page k taken false = (refl, refl)
 
 pub line_chained : (listed : Bool) (line : ℕ) (page : List Command) (k : KeptEdits) (step : Step)
     → AreChained (remaining page k) (line_events listed line page k step) (remaining page (kept_after k step))
-line_chained listed line page k (Turn turn) =
-    turn_chained listed line page k (kept_after_turn k turn) (finds_nothing turn k)
+line_chained listed line page k (UndoRedo which) =
+    undo_redo_chained listed line page k (kept_after_undo_redo k which) (finds_nothing which k)
 line_chained listed line page k (Edit commands) =
     subst (λ (h : List Command). AreChained (remaining page k) (edit_events listed line (remaining page k) commands) h)
     (remaining-edit page k commands) (edit_chained listed line (remaining page k) commands)

@@ -108,7 +108,7 @@ module _ (plan : Plan) (name : List ℕ) (script : ScriptSource) (told : List �
     script_first = first_by (File name) script told before (outside_of shelf before.sink before.glass) statuses.ReadFault
         known.is;
     unpainted = λ idle. refl;
-    unflushed = λ early. HasPut-nothing before.sink;
+    unflushed = λ early other. HasPut-nothing before.sink;
     room = refl;
     sink_faults = omega arith;
   }

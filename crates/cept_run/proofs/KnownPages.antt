@@ -4,13 +4,14 @@ use Rattle.std.proofs.Common.{◌∙◌, ap, subst}
 use Rattle.cept_outside.specs.ShelfState.{Holds, IsSound}
 use Rattle.cept_run.specs.declared.run.Status.{Status}
 use Rattle.cept_run.specs.declared.run.Status.TheVariants as statuses
+use Rattle.cept_run.specs.declared.words.End.TheVariants as ends
 use Rattle.cept_run.specs.declared.words.NumberAction.TheVariants as numbers
 use Rattle.cept_run.specs.Course.{Course, Source, File, Grammar, Scripts, Drawings, ScriptSource, NoScript, ScriptFile}
 use Rattle.cept_run.specs.Course.{SelectsNoOther, course_of}
 use Rattle.cept_run.specs.Outside.{Outside, output}
 use Rattle.cept_run.specs.Run.{EndsAtReadFault, EndsAtScript, IsAtScript, IsPageTooLong, ReportsFirst, ReportsFront, Runs}
 use Rattle.cept_run.specs.Run.{RunsCourse}
-use Rattle.cept_run.specs.Words.{Request, Page, Bytes, Script, Number, Flash, Drawing, request_of, options_of_script, options_to_draw}
+use Rattle.cept_run.specs.Words.{Request, Page, Bytes, Script, Number, Flash, Drawing, request_of, options_of_script, painting_options}
 use Rattle.cept_run.proofs.PagesInPieces.{nil_from_length}
 use Rattle.cept_run.proofs.ReportedFronts.{reports_nothing}
 use Rattle.cept_run.proofs.StoppedScripts.{name_in}
@@ -28,7 +29,7 @@ nothing_reported (Number numbers.Generate number) grammar script before after na
 nothing_reported (Number numbers.Load number) grammar script before after named same = cc
 nothing_reported (Flash page turns) grammar script before after named same = cc
 nothing_reported (Drawing page drawing) grammar script before after named same =
-    reports_nothing options_to_draw (File page) (ScriptFile Drawings drawing) before after same
+    reports_nothing (record painting_options { end = ends.Page }) (File page) (ScriptFile Drawings drawing) before after same
 
 -- the script at which a run stands
 record AtScript (script : ScriptSource) (page : Source) (before after : Outside) : Type 0 where

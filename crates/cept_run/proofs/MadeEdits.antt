@@ -8,13 +8,13 @@ use Rattle.cept_codes.specs.declared.command.Command.{Command}
 use Rattle.cept_editor.specs.declared.editor.Done.{Done}
 use Rattle.cept_editor.specs.declared.editor.Done.TheVariants as answers
 use Rattle.cept_editor.specs.Events.{Event}
-use Rattle.cept_editor.specs.Kept.{KeptEdits, none_kept, finds_nothing, kept_after_turn, kept_after, remaining}
+use Rattle.cept_editor.specs.Kept.{KeptEdits, none_kept, finds_nothing, kept_after_undo_redo, kept_after, remaining}
 use Rattle.cept_editor.specs.Kept.{states_before, state_before_last, states_again, state_after_first, EditorState}
 use Rattle.cept_editor.specs.Kept.{editor_after, StandsAfter}
 use Rattle.cept_editor.specs.Made.{Output, output_of, IsMade, AreMade, AreCutOff}
-use Rattle.cept_editor.specs.declared.turn.Turn.{Turn as TurnKind}
-use Rattle.cept_editor.specs.declared.turn.Turn.TheVariants.{TakeBack, MakeAgain}
-use Rattle.cept_editor.specs.Meaning.{Turn}
+use Rattle.cept_editor.specs.declared.undo_redo.UndoRedo.{UndoRedo as UndoRedoKind}
+use Rattle.cept_editor.specs.declared.undo_redo.UndoRedo.TheVariants.{Undo, Redo}
+use Rattle.cept_editor.specs.Meaning.{UndoRedo}
 use Rattle.cept_editor.specs.Script.{EditLine}
 use Rattle.cept_editor.specs.Stepping.{nothing_event, event_from, line_events, states_ahead, GoesOn}
 use Rattle.cept_editor.proofs.Laws.{AreMade-none, AreMade-more, AreCutOff-here, AreMade-append, AreCutOff-after}
@@ -42,29 +42,29 @@ pub record MakesLine {X E : Type 0} (listed : Bool) (edit : EditLine) (old : Edi
   pub cut : OnErr result ((page : List Command) (k : KeptEdits) → StandsAfter old page k
       → AreCutOff (line_events listed edit.line page k edit.step) before after)
 
--- where no state lies ahead, the turn finds nothing
+-- where no state lies ahead, undo and redo find nothing
 none_listed : (f : ℕ → State) (n : ℕ) → map f (range_with_len 0 n) ≡ [] → (n == 0) ≡ true
 none_listed f n none =
     let e : length (map f (range_with_len 0 n)) ≡ 0 = ap length none in
     let no : n ≡ 0 = omega (arith, length-map (range_with_len 0 n) f, length-range_with_len 0 n, e) in
     ap (λ k. k == 0) no
 
-none_found : (page : List Command) (k : KeptEdits) (turn : TurnKind) → states_ahead (editor_after page k) turn ≡ []
-    → finds_nothing turn k ≡ true
+none_found : (page : List Command) (k : KeptEdits) (which : UndoRedoKind) → states_ahead (editor_after page k) which ≡ []
+    → finds_nothing which k ≡ true
 unfolding states_before states_again
-none_found page k TakeBack none = none_listed (state_before_last page k) k.count none
-none_found page k MakeAgain none = none_listed (state_after_first page k) (length k.undone) none
+none_found page k Undo none = none_listed (state_before_last page k) k.count none
+none_found page k Redo none = none_listed (state_after_first page k) (length k.undone) none
 
 -- then it is one event that changes nothing, and leaves the kept edits
-nothing_events : (listed : Bool) (line : ℕ) (page : List Command) (k : KeptEdits) (turn : TurnKind)
-    → finds_nothing turn k ≡ true
-    → line_events listed line page k (Turn turn) ≡ nothing_event listed line (remaining page k) ∷ []
-nothing_events listed line page k turn none =
+nothing_events : (listed : Bool) (line : ℕ) (page : List Command) (k : KeptEdits) (which : UndoRedoKind)
+    → finds_nothing which k ≡ true
+    → line_events listed line page k (UndoRedo which) ≡ nothing_event listed line (remaining page k) ∷ []
+nothing_events listed line page k which none =
     ap (λ b. cond b (nothing_event listed line (remaining page k))
-    (event_from listed line (remaining page k) (remaining page (kept_after k (Turn turn)))) ∷ []) none
+    (event_from listed line (remaining page k) (remaining page (kept_after k (UndoRedo which)))) ∷ []) none
 
-nothing_kept : (k : KeptEdits) (turn : TurnKind) → finds_nothing turn k ≡ true → kept_after k (Turn turn) ≡ k
-nothing_kept k turn none = ap (λ b. cond b k (kept_after_turn k turn)) none
+nothing_kept : (k : KeptEdits) (which : UndoRedoKind) → finds_nothing which k ≡ true → kept_after k (UndoRedo which) ≡ k
+nothing_kept k which none = ap (λ b. cond b k (kept_after_undo_redo k which)) none
 
 -- the events were made
 pub line_done : {E : Type 0} (listed : Bool) (edit : EditLine) (old new : EditorState) (before after : Output)
@@ -89,24 +89,24 @@ line_cut listed edit old new before after on = record {
   cut = λ page k stands. (on.cut page k stands).cut;
 }
 
--- it was a turn that found nothing, and its line was put, or not
+-- it was an undo or a redo that found nothing, and its line was put, or not
 module _ {F : Type 0} (listed : Bool) (edit : EditLine) (old new : EditorState) (before after : Output)
     (now : SinkState)
     (on : GoesOn {E = F} listed edit.line edit.step old before (Ok answers.Nothing) new after) where
   module _ (page : List Command) (k : KeptEdits) (stands : StandsAfter old page k) where
-    abbrev turn : TurnKind
-    turn = (on.nothing.0 refl).0
+    abbrev which : UndoRedoKind
+    which = (on.nothing.0 refl).0
 
-    found : finds_nothing turn k ≡ true
-    found = none_found page k turn
-        (sym (ap (λ (e : EditorState). states_ahead e turn) stands.is) ∙ (on.nothing.0 refl).2)
+    found : finds_nothing which k ≡ true
+    found = none_found page k which
+        (sym (ap (λ (e : EditorState). states_ahead e which) stands.is) ∙ (on.nothing.0 refl).2)
 
     events : line_events listed edit.line page k edit.step ≡ nothing_event listed edit.line (remaining page k) ∷ []
     events = ap (line_events listed edit.line page k) (on.nothing.0 refl).1
-        ∙ nothing_events listed edit.line page k turn found
+        ∙ nothing_events listed edit.line page k which found
 
     kept_is : kept_after k edit.step ≡ k
-    kept_is = ap (kept_after k) (on.nothing.0 refl).1 ∙ nothing_kept k turn found
+    kept_is = ap (kept_after k) (on.nothing.0 refl).1 ∙ nothing_kept k which found
 
     still_stands : StandsAfter new page (kept_after k edit.step)
     still_stands = subst (λ (l : KeptEdits). StandsAfter new page l) (sym kept_is)
@@ -155,7 +155,7 @@ module _ {F : Type 0} (listed : Bool) (edit : EditLine) (old new : EditorState) 
 
 -- what fills the unused room of a script
 abbrev pub spare_line : EditLine
-spare_line = record { line = 0; step = Turn TakeBack }
+spare_line = record { line = 0; step = UndoRedo Undo }
 
 -- none was made
 pub HasMadeLines-none : (listed : Bool) (page : List Command) (editor : EditorState) (o : Output)

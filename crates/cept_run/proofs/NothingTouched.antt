@@ -37,7 +37,7 @@ runs_without_memory course before painting = record {
   sink_stays = λ other. refl;
   script_first = first_untouched course.script course.page before;
   unpainted = λ idle. refl;
-  unflushed = λ early. HasPut-nothing before.sink;
+  unflushed = λ early other. HasPut-nothing before.sink;
   room = refl;
   sink_faults = omega arith;
 }

@@ -34,7 +34,7 @@ use Rattle.cept_editor.proofs.Laws.{AreCutOff-longer}
 use Rattle.cept_run.specs.declared.target.Target.{Target}
 use Rattle.cept_run.specs.declared.target.Target.TheVariants as targets
 use Rattle.cept_run.specs.declared.words.ReportOptions.{ReportOptions}
-use Rattle.cept_run.specs.Events.{history, event_between, listed_text, text_of_said, item_event, item_events, refused_count}
+use Rattle.cept_run.specs.Events.{history, listed_text, text_of_said, item_event, item_events, refused_count}
 use Rattle.cept_run.specs.Events.{named_text, painted_count, Sequel, NoSequel, Edits, Figures}
 use Rattle.cept_parser.specs.Items.{items, closed_items, reading_within, is_refusal}
 use Rattle.cept_parser.specs.State.{Leads}
@@ -205,7 +205,11 @@ module _ {X E : Type 0} (old new : ReporterState) (i : Item) (command : Command)
       let p = plan_paints plan earlier stands in
       let h = history plan.options earlier in
       let event : item_event plan.options earlier i ≡ command_event plan.options i.at h command =
-      ap (λ hs. event_between plan.options i h hs) (history-command plan.options earlier i command p is)
+      ap (λ (hs : List Command). record {
+        before = h;
+        after = hs;
+        text = text_of_said plan.options i i.what (changes_between (grid h) (grid hs));
+      }) (history-command plan.options earlier i command p is)
       ∙ ap (λ (s : Said). record {
         before = h;
         after = h ++ command ∷ [];
@@ -465,7 +469,7 @@ module _ (screen new : State) (marks : List Bool) (command : Command) (glass sho
     idle = λ none. cc;
   }
 
-  -- on a screen whose edits can be taken back
+  -- on a screen whose edits can be undone
   pub applied_in_editor : (editor after : EditorState) (lines : List EditLine) → editor.screen ≡ screen
       → after.screen ≡ new → after.past ≡ editor.past → after.future ≡ []
       → AppliesOn (targets.Editor editor lines) command glass (targets.Editor after lines) marks shown

@@ -1,5 +1,5 @@
 -- What is selected, and what is then left.
-use Rattle.std.proofs.Common.{◌≡◌, ◌≢◌, ◌⊎◌, inl, inr, ℕ, true, false, List, [], take}
+use Rattle.std.proofs.Common.{◌≡◌, ◌≢◌, ◌⊎◌, inl, inr, ℕ, Bool, true, false, List, [], take}
 use Rattle.std.proofs.Common.{Option, Some, None, is_some, Ok, refl, sym, ◌∙◌, ap}
 use Rattle.std.specs.Prelude.{option_and_then}
 use Rattle.std.proofs.lemmas.Option.{same_Some}
@@ -7,8 +7,9 @@ use Rattle.cept_outside.specs.ShelfState.{ShelfState, Holds, Lacks, SelectsNothi
 use Rattle.cept_outside.specs.ShelfState.{bytes_under}
 use Rattle.cept_outside.specs.SinkState.{SinkState, HasPut, Gains, GainsPart}
 use Rattle.cept_run.specs.declared.run.Status.{Status}
+use Rattle.cept_run.specs.declared.run.Status.TheVariants as statuses
 use Rattle.cept_run.specs.Course.{Gives}
-use Rattle.cept_run.specs.Run.{is_flushed}
+use Rattle.cept_run.specs.Run.{is_whole}
 
 -- ---- the selection
 
@@ -100,14 +101,24 @@ pub put_either : {X : Type 0} (text : List ℕ) (s t : SinkState) → GainsPart 
 put_either text s t (inl part) = record { part = take part.size text; gains = part.gains }
 put_either text s t (inr all) = record { part = text; gains = all.0 }
 
+-- the run ended with a flush
+abbrev pub is_flushed : Status → Bool
+is_flushed statuses.Script = true
+is_flushed status = is_whole status
+
+unflushed_unless : (status : Status) → is_whole status ≡ false → status ≢ statuses.Script → is_flushed status ≡ false
+unflushed_unless statuses.Script early other = absurd (other refl)
+unflushed_unless status early other = early
+
 -- bytes were put and nothing flushed; or the run ended with a flush, and the sink kept its room
 abbrev pub EndsPut : Status → SinkState → SinkState → Type 0
 EndsPut status s t = HasPut s t ⊎ ((is_flushed status ≡ true) × (t.room ≡ s.room))
 
-pub put_unless : (status : Status) (s t : SinkState) → EndsPut status s t → is_flushed status ≡ false → HasPut s t
-put_unless status s t (inl put) early = put
-put_unless status s t (inr ended) early =
-    let no : false ≡ true = sym early ∙ ended.0 in
+pub put_unless : (status : Status) (s t : SinkState) → EndsPut status s t → is_whole status ≡ false
+    → status ≢ statuses.Script → HasPut s t
+put_unless status s t (inl put) early other = put
+put_unless status s t (inr ended) early other =
+    let no : false ≡ true = sym (unflushed_unless status early other) ∙ ended.0 in
     cc
 
 pub room_kept : (status : Status) (s t : SinkState) → EndsPut status s t → t.room ≡ s.room

@@ -9,7 +9,7 @@ use Rattle.cept_codes.specs.declared.look.Look.{Look}
 use Rattle.cept_codes.specs.Place.{Place}
 use Rattle.cept_editor.specs.Events.{Event, report}
 use Rattle.cept_editor.specs.Kept.{KeptEdits, finds_nothing, kept_after, remaining}
-use Rattle.cept_editor.specs.Meaning.{Step, Turn, Edit}
+use Rattle.cept_editor.specs.Meaning.{Step, UndoRedo, Edit}
 use Rattle.cept_editor.specs.Script.{EditLine}
 use Rattle.cept_editor.specs.Stepping.{event_from, nothing_event, edit_events, line_events}
 use Rattle.cept_plot.specs.declared.figure.Figure.{Figure}
@@ -56,16 +56,16 @@ silent_edit line n earlier whole (c ∷ rest) =
     (earlier ++ take (numbered.0 + 1) whole)) (enumerate_from (n + 1) rest)) refl
     (silent_edit line (n + 1) earlier whole rest)
 
-silent_turn : (line : ℕ) (before after : List Command) (none : Bool)
+silent_undo_redo : (line : ℕ) (before after : List Command) (none : Bool)
     → report ((cond none (nothing_event false line before) (event_from false line before after)) ∷ []) ≡ []
-silent_turn line before after true = report-one (nothing_event false line before)
-silent_turn line before after false = report-one (event_from false line before after)
+silent_undo_redo line before after true = report-one (nothing_event false line before)
+silent_undo_redo line before after false = report-one (event_from false line before after)
 
 silent_line : (line : ℕ) (page : List Command) (k : KeptEdits) (step : Step)
     → report (line_events false line page k step) ≡ []
 unfolding edit_events
-silent_line line page k (Turn turn) =
-    silent_turn line (remaining page k) (remaining page (kept_after k (Turn turn))) (finds_nothing turn k)
+silent_line line page k (UndoRedo which) =
+    silent_undo_redo line (remaining page k) (remaining page (kept_after k (UndoRedo which))) (finds_nothing which k)
 silent_line line page k (Edit commands) = silent_edit line 0 (remaining page k) commands commands
 
 silent_lines_after : (listed : Bool) (page : List Command) (earlier lines : List EditLine) → listed ≡ false

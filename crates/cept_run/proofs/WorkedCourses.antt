@@ -4,7 +4,11 @@ use Rattle.cept_run.specs.declared.words.BytesAction.TheVariants.{Eight, Seven}
 use Rattle.cept_run.specs.declared.words.NumberAction.TheVariants.{Generate, Load}
 use Rattle.cept_run.specs.declared.words.PageAction.TheVariants.{Cells, Changes, Check, List as ListItems, Show, Write}
 use Rattle.cept_run.specs.declared.words.ScriptAction.TheVariants.{Edit, Trace}
-use Rattle.cept_run.specs.Course.{File, Source, Scripts, Drawings, ScriptSource, NoScript, ScriptFile, course_of}
+use Rattle.cept_run.specs.declared.words.End.TheVariants as ends
+use Rattle.cept_run.specs.declared.words.Way.TheVariants as ways
+use Rattle.cept_run.specs.Course.{File, Given, Source, Scripts, Drawings, ScriptSource, NoScript, ScriptFile}
+use Rattle.cept_run.specs.Course.{course_of, report_course}
+use Rattle.cept_generator.specs.Generated.{generated}
 use Rattle.cept_run.specs.Words.{Bytes, Drawing, Flash, Number, Page, Request, Script}
 use Rattle.cept_seven.specs.Eight.{accepted_after, is_shifted}
 
@@ -38,6 +42,24 @@ sources : read (
     ∷ (Flash page 6, File page, NoScript)
     ∷ (Drawing page script, File page, ScriptFile Drawings script) ∷ [])
 sources = (refl, refl)
+
+-- ---- report options
+
+-- of a generated page the counts, of a page through turns its phases, of a page with a drawing the page
+of_loaded_pages : course_of (Number Load 7) ≡
+    report_course (record { way = ways.Paint; refusals = false; edits_listed = false; end = ends.Counts })
+    (Given (generated 7)) NoScript
+of_loaded_pages = refl
+
+of_flashing_pages : (turns : ℕ) → course_of (Flash page turns) ≡
+    report_course (record { way = ways.Paint; refusals = false; edits_listed = false; end = ends.Phases turns })
+    (File page) NoScript
+of_flashing_pages turns = refl
+
+of_drawings : course_of (Drawing page script) ≡
+    report_course (record { way = ways.Paint; refusals = false; edits_listed = false; end = ends.Page })
+    (File page) (ScriptFile Drawings script)
+of_drawings = refl
 
 -- ---- statuses
 

@@ -3,16 +3,14 @@ use Rattle.std.proofs.Common.{◌≡◌, ℕ, List, [], ◌∷◌, ◌++◌, cod
 use Rattle.std.specs.Fmt.{digits}
 use Rattle.std.specs.Option.{option_map}
 use Rattle.cept_parser.specs.Controls.{one_byte}
-use Rattle.cept_parser.specs.Csi.{area, area_from, area_to, csi, csi_1, csi_2}
-use Rattle.cept_parser.specs.Escape.{designation, designation_of_c1, designation_of_drcs, escape, escape_1, escape_2}
-use Rattle.cept_parser.specs.Escape.{escape_3, full_row, full_screen}
+use Rattle.cept_parser.specs.Csi.{area, csi, csi_2}
+use Rattle.cept_parser.specs.Escape.{escape, escape_1, escape_2, escape_3}
 use Rattle.cept_parser.specs.Grammar.{csi_unit, fits, grows, repetition, unit}
 use Rattle.cept_parser.specs.Items.{closing_items, front, front_of, longest_beginning, longest_beginning_within}
 use Rattle.cept_parser.specs.Items.{reading_by, reading_within, said_at_end}
-use Rattle.cept_parser.specs.Runs.{colour, dclut_value, pattern_unit, table_entry}
-use Rattle.cept_parser.specs.Units.{colour_header, colour_start, colour_unit, colours_from, drcs_header, drcs_height}
-use Rattle.cept_parser.specs.Units.{drcs_planes, drcs_unit, drcs_width, format, service, service_break, service_unit}
-use Rattle.cept_parser.specs.Units.{us_position, us_unit}
+use Rattle.cept_parser.specs.Runs.{colour, table_entry}
+use Rattle.cept_parser.specs.Units.{colour_header, colour_start, colour_unit, drcs_form, drcs_header, drcs_unit}
+use Rattle.cept_parser.specs.Units.{format, service_break, service_unit, us_position, us_unit}
 use Rattle.cept_editor.specs.Events.{report}
 use Rattle.cept_editor.specs.Meaning.{hex_bytes, line_meaning}
 use Rattle.cept_editor.specs.Table.{row_of}
@@ -24,27 +22,31 @@ use Rattle.cept_seven.specs.Eight.{accepted_after, eight_after, is_shifted}
 use Rattle.cept_seven.specs.Seven.{texts}
 use Rattle.cept_run.specs.declared.words.BytesAction.TheVariants.{Eight, Seven}
 use Rattle.cept_run.specs.declared.words.PageAction.TheVariants.{Check, List as ListItems}
-use Rattle.cept_run.specs.Course.{Grammar, Scripts, Drawings, first_fault_in, course_of}
+use Rattle.cept_profile.specs.Look.{grid}
+use Rattle.cept_run.specs.Course.{Course, Grammar, Scripts, Drawings, first_fault_in, course_of}
 use Rattle.cept_run.specs.Events.{item_events}
-use Rattle.cept_run.specs.Run.{fault_text, report_of}
+use Rattle.cept_run.specs.Run.{fault_text}
 use Rattle.cept_run.specs.Words.{Bytes, Page, Request}
 
 -- what pages and scripts compute with: where this name stands on a line `unfolding`, each definition of its own line unfolds
 unfoldable reading_computes : Unit {0}
-unfolding one_byte area area_from area_to csi csi_1 csi_2 designation designation_of_c1 designation_of_drcs escape
-    escape_1 escape_2 escape_3 full_row full_screen csi_unit fits grows repetition unit closing_items front front_of
-    longest_beginning longest_beginning_within reading_by reading_within said_at_end colour dclut_value pattern_unit
-    table_entry colour_header colour_start colour_unit colours_from drcs_header drcs_height drcs_planes drcs_unit
-    drcs_width format service service_break service_unit us_position us_unit
+unfolding one_byte area csi csi_2 escape escape_1 escape_2 escape_3 csi_unit fits grows repetition unit closing_items
+    front front_of longest_beginning longest_beginning_within reading_by reading_within said_at_end colour table_entry
+    colour_header colour_start colour_unit drcs_form drcs_header drcs_unit format service_break service_unit us_position
+    us_unit
 reading_computes = tt
 
 abbrev page : List ℕ
 page = codes "page"
 
+-- the report of a page, on a glass that was blank
+abbrev report_of : Course → List ℕ → List ℕ
+report_of course bytes = report (course.events bytes [] (grid (course.remaining bytes [])))
+
 -- pages, each with the report of a request, which reads no script
 abbrev are_told : Request → List (List ℕ × List ℕ) → Type 0
 are_told request rows =
-    map (λ (row : List ℕ × List ℕ). report_of (course_of request) row.0 []) rows
+    map (λ (row : List ℕ × List ℕ). report_of (course_of request) row.0) rows
     ≡ map (λ (row : List ℕ × List ℕ). row.1) rows
 
 -- ---- `check`: a line for each refused item, and then the counts

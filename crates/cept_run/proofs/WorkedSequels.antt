@@ -5,7 +5,7 @@ use Rattle.cept_editor.specs.Meaning.{Edit, line_meaning}
 use Rattle.cept_editor.specs.Script.{edits_from}
 use Rattle.cept_editor.specs.Table.{row_of}
 use Rattle.cept_plot.specs.declared.figure.Figure.TheVariants.{Plot}
-use Rattle.cept_plot.specs.Drawings.{figure_of, figures_in, line_meaning as meaning_in_drawing}
+use Rattle.cept_plot.specs.Drawings.{figure_of, line_meaning as meaning_in_drawing}
 use Rattle.cept_run.specs.Course.{NoScript, ScriptFile, Scripts, Drawings, sequel_in}
 use Rattle.cept_run.specs.Events.{NoSequel, Edits, Figures}
 
@@ -22,5 +22,5 @@ a_script = refl
 -- the figures of a drawing's lines
 a_drawing : sequel_in (ScriptFile Drawings (codes "drawing")) (codes "# a note" ++ 0x0A ∷ codes "plot 5 7")
     ≡ Figures (Plot (record { x = 5; y = 7 }) ∷ [])
-unfolding figures_in meaning_in_drawing figure_of
+unfolding meaning_in_drawing figure_of
 a_drawing = refl

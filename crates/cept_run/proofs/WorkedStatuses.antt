@@ -6,7 +6,7 @@ use Rattle.cept_run.specs.declared.page.Stop.TheVariants as stops
 use Rattle.cept_run.specs.declared.run.Status.{Status}
 use Rattle.cept_run.specs.declared.run.Status.TheVariants.{Done, NoMemory, NotSeven, ReadFault, Refusals, Script}
 use Rattle.cept_run.specs.declared.run.Status.TheVariants.{TooLong, Usage, WriteFault}
-use Rattle.cept_run.specs.Run.{is_flushed, is_whole, status_at_end, status_number}
+use Rattle.cept_run.specs.Run.{is_whole, status_at_end, status_number}
 
 -- all statuses, in the order of their numbers
 abbrev statuses : List Status
@@ -18,10 +18,6 @@ numbers = refl
 -- 0 and 1: the page was read to its end
 read_to_the_end : map is_whole statuses ≡ true ∷ true ∷ false ∷ false ∷ false ∷ false ∷ false ∷ false ∷ false ∷ []
 read_to_the_end = refl
-
--- 0, 1 and 3: what was put was flushed
-flushed : map is_flushed statuses ≡ true ∷ true ∷ false ∷ true ∷ false ∷ false ∷ false ∷ false ∷ false ∷ []
-flushed = refl
 
 -- a page was read without a refused item and with one; or the run stopped
 ends : map (λ (answer : Result Bool Stop). status_at_end answer)

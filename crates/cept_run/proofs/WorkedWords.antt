@@ -6,7 +6,7 @@ use Rattle.cept_run.specs.declared.words.NumberAction.TheVariants.{Generate, Loa
 use Rattle.cept_run.specs.declared.words.PageAction.TheVariants.{Cells, Changes, Check, List as ListItems, Show, Write}
 use Rattle.cept_run.specs.declared.words.ScriptAction.TheVariants.{Edit, Trace}
 use Rattle.cept_run.specs.Words.{Bytes, Drawing, Flash, Number, Page, Request, Script, request_of}
-use Rattle.cept_run.specs.Words.{options_of_page, options_of_phases, options_of_script, options_to_draw, options_to_load}
+use Rattle.cept_run.specs.Words.{options_of_page, options_of_script}
 use Rattle.cept_run.specs.declared.words.Way.TheVariants as ways
 use Rattle.cept_run.specs.Words.{is_counted, is_painted, lists_changes, number_of}
 
@@ -115,14 +115,6 @@ of_scripts : map options_of_script (Trace ∷ Edit ∷ []) ≡
     record { way = ways.Paint; refusals = true; edits_listed = true; end = ends.Nothing }
     ∷ record { way = ways.Paint; refusals = false; edits_listed = false; end = ends.Page } ∷ []
 of_scripts = refl
-
--- of a generated page the counts, of a page through turns its phases, of a page with a drawing the page
-of_others : options_to_load ∷ options_of_phases 0 ∷ options_of_phases 600 ∷ options_to_draw ∷ [] ≡
-    record { way = ways.Paint; refusals = false; edits_listed = false; end = ends.Counts }
-    ∷ record { way = ways.Paint; refusals = false; edits_listed = false; end = ends.Phases 0 }
-    ∷ record { way = ways.Paint; refusals = false; edits_listed = false; end = ends.Phases 600 }
-    ∷ record { way = ways.Paint; refusals = false; edits_listed = false; end = ends.Page } ∷ []
-of_others = refl
 
 -- commands are painted but where items are counted or listed, and what they change is listed under one way
 painted : map is_painted (ways.Count ∷ ways.List ∷ ways.Paint ∷ ways.PaintAndList ∷ []) ≡ false ∷ false ∷ true ∷ true ∷ []

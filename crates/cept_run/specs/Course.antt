@@ -20,7 +20,7 @@ use Rattle.cept_run.specs.declared.words.NumberAction.TheVariants as numbers
 use Rattle.cept_run.specs.Events.{history, item_events, run_events, remaining_of, Sequel, NoSequel, Edits, Figures}
 use Rattle.cept_run.specs.Converted.{converted, converted_front, readable_front, can_end_there}
 use Rattle.cept_run.specs.Words.{Request, Page, Bytes, Script, Number, Flash, Drawing, options_of_page, options_of_script}
-use Rattle.cept_run.specs.Words.{options_to_load, options_of_phases, options_to_draw, is_painted, lists_changes}
+use Rattle.cept_run.specs.Words.{painting_options, is_painted, lists_changes}
 
 -- ---- what is read
 
@@ -141,25 +141,20 @@ plain_course page = record {
   written = false;
 }
 
--- a page of a file is put in seven bits, or in eight again
-abbrev pub conversion_course : BytesAction → List ℕ → Course
-conversion_course action page = record (plain_course (File page)) {
+-- the course of each request: the items of a page are reported, or its bytes put in seven bits or in eight again, a
+-- generated page is put, or reported
+abbrev pub course_of : Request → Course
+course_of (Page action page) = report_course (options_of_page action) (File page) NoScript
+course_of (Bytes action page) = record (plain_course (File page)) {
   front_events = λ bytes. text_event (converted_front action bytes) ∷ [];
   events = λ bytes lines shown. text_event (converted action bytes) ∷ [];
   readable_front = readable_front action;
   can_end = can_end_there action;
 }
-
--- of a generated page
-abbrev pub course_of_number : NumberAction → ℕ → Course
-course_of_number numbers.Generate number = plain_course (Given (generated number))
-course_of_number numbers.Load number = report_course options_to_load (Given (generated number)) NoScript
-
--- the course of each request
-abbrev pub course_of : Request → Course
-course_of (Page action page) = report_course (options_of_page action) (File page) NoScript
-course_of (Bytes action page) = conversion_course action page
 course_of (Script action page script) = report_course (options_of_script action) (File page) (ScriptFile Scripts script)
-course_of (Number action number) = course_of_number action number
-course_of (Flash page turns) = report_course (options_of_phases turns) (File page) NoScript
-course_of (Drawing page drawing) = report_course options_to_draw (File page) (ScriptFile Drawings drawing)
+course_of (Number numbers.Generate number) = plain_course (Given (generated number))
+course_of (Number numbers.Load number) =
+    report_course (record painting_options { end = ends.Counts }) (Given (generated number)) NoScript
+course_of (Flash page turns) = report_course (record painting_options { end = ends.Phases turns }) (File page) NoScript
+course_of (Drawing page drawing) =
+    report_course (record painting_options { end = ends.Page }) (File page) (ScriptFile Drawings drawing)

@@ -1,5 +1,5 @@
--- The events of a run: one for each item of the page, one for each command of each edit and for each turn or for each
--- command of a drawing, and one at the end. This project's own.
+-- The events of a run: one for each item of the page, one for each command of each edit and for each undo and redo or for
+-- each command of a drawing, and one at the end. This project's own.
 use Rattle.std.specs.Prelude.{ℕ, Bool, false, List, [], ◌∷◌, ◌++◌, length, map, take, count_by, nat_lt}
 use Rattle.std.specs.Prelude.{if◌then◌else◌}
 use Rattle.std.specs.List.{enumerate_from, flat_map}
@@ -57,18 +57,13 @@ abbrev pub text_of_said : ReportOptions → Item → Said → List (Place × Loo
 text_of_said options item (said.Command command) changes = listed_text options.way item changes
 text_of_said options item (said.Refused reason) changes = if options.refusals then named_text options.way item reason else []
 
--- an item that comes with these commands before it and these after it
-abbrev pub event_between : ReportOptions → Item → List Command → List Command → Event
-event_between options item before after = record {
-  before = before;
-  after = after;
-  text = text_of_said options item item.what (changes_between (grid before) (grid after));
-}
-
 -- an item that comes after these
 abbrev pub item_event : ReportOptions → List Item → Item → Event
 item_event options earlier item =
-    event_between options item (history options earlier) (history options (earlier ++ item ∷ []))
+    let before = history options earlier in
+    let after = history options (earlier ++ item ∷ []) in
+    let changes = changes_between (grid before) (grid after) in
+    record { before = before; after = after; text = text_of_said options item item.what changes }
 
 -- each of these items, after those before it
 unfoldable pub item_events : ReportOptions → List Item → List Event
@@ -85,10 +80,6 @@ refused_count items = count_by (λ i. is_refusal i.what) items
 abbrev pub has_refusal : List Item → Bool
 has_refusal items = nat_lt 0 (refused_count items)
 
--- how many rows the page has after the commands
-abbrev pub rows_after : List Command → ℕ
-rows_after commands = (control commands).rows
-
 -- how many places are painted at these items
 abbrev pub painted_count : ReportOptions → List Item → ℕ
 painted_count options items = length (paints (item_events options items))
@@ -96,8 +87,8 @@ painted_count options items = length (paints (item_events options items))
 -- what is put at the end of a page that was painted, where these commands remain and the glass shows this grid
 abbrev pub painted_end : End → ReportOptions → List (List Look) → List ℕ → List Command → List ℕ
 painted_end ends.Nothing options shown page commands = []
-painted_end ends.Screen options shown page commands = screen_text shown (rows_after commands)
-painted_end ends.Cells options shown page commands = cells_text shown (rows_after commands)
+painted_end ends.Screen options shown page commands = screen_text shown (control commands).rows
+painted_end ends.Cells options shown page commands = cells_text shown (control commands).rows
 painted_end ends.Page options shown page commands = page_text (core commands)
 painted_end ends.Counts options shown page commands =
     load_line (length page) (length (closed_items page)) (painted_count options (closed_items page))

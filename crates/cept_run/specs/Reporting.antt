@@ -52,7 +52,7 @@ pub record ReporterState : Type 0 where
   pub refused : ℕ
   pub painted : ℕ
 
--- what the commands of a page are applied to, after these: where there is a script, a screen whose edits can be taken back;
+-- what the commands of a page are applied to, after these: where there is a script, a screen whose edits can be undone;
 -- where there is a drawing, a screen and the drawing
 abbrev pub painted_target : Sequel → List Command → Target
 painted_target NoSequel commands = targets.Screen (state commands)

@@ -31,11 +31,6 @@ is_whole statuses.Done = true
 is_whole statuses.Refusals = true
 is_whole _ = false
 
--- the run ended with a flush
-abbrev pub is_flushed : Status → Bool
-is_flushed statuses.Script = true
-is_flushed status = is_whole status
-
 -- a reset decoder reads these bytes without a refusal, and they bring the core, and so the grid, of these commands
 pub record Restores (bytes : List ℕ) (history : List Command) : Type 0 where
   pub good : AllByRecursion (λ i. is_refusal i.what ≡ false) (closed_items bytes)
@@ -43,10 +38,6 @@ pub record Restores (bytes : List ℕ) (history : List Command) : Type 0 where
   pub shows : grid (commands bytes) ≡ grid history
 
 -- ---- what was reported
-
--- the report of a page and a script: a glass that was blank shows at the end what all commands mean that remain
-abbrev pub report_of : Course → List ℕ → List ℕ → List ℕ
-report_of course page script = report (course.events page script (grid (course.remaining page script)))
 
 -- a page and a script that were read to their ends
 pub record ReportsWhole (course : Course) (page script : List ℕ) (before after : Outside) : Type 0 where
@@ -169,7 +160,8 @@ pub record IsReportCut (course : Course) (before after : Outside) : Type 0 where
       ⊎ (AreMade (course.events page script after.glass.grid) (output before) (output after)
       × (before.sink.always_flushes ≡ false) × (course.readable_front page ≡ page) × (course.can_end page ≡ true))
   -- so where the glass was blank, a front of the report was put, and not the whole where no flush fails
-  pub front : before.glass.grid ≡ grid [] → PutsFront (report_of course page script) before.sink after.sink
+  pub front : before.glass.grid ≡ grid []
+      → PutsFront (report (course.events page script (grid (course.remaining page script)))) before.sink after.sink
   -- of a page in a file, beside which none is selected, all was taken, or a front
   pub taken : (name : List ℕ) → course.page ≡ File name → SelectsNoOther name after.shelf
       × ((AreAllTaken page after.shelf × (length page ≤ 2 ^ 24)) ⊎ IsFrontCut course page before after)
@@ -274,7 +266,7 @@ pub record RunsCourse (course : Course) (before after : Outside) (status : Statu
   -- what paints nothing doesn't touch the glass
   pub unpainted : course.painting ≡ false → after.glass ≡ before.glass
   -- no early end flushes, but that at a script's bad line: where bytes are put, no flush succeeds
-  pub unflushed : is_flushed status ≡ false → HasPut before.sink after.sink
+  pub unflushed : is_whole status ≡ false → status ≢ statuses.Script → HasPut before.sink after.sink
   -- the sink keeps its room
   pub room : after.sink.room ≡ before.sink.room
   pub sink_faults : before.sink.faults ≤ after.sink.faults

@@ -72,39 +72,19 @@ number_of word =
     && nat_lt (digits_value 10 word) (2 ^ 32)
     then Some (digits_value 10 word) else None
 
--- the name of a file, which isn't empty
-abbrev pub request_of_file : (List ℕ → Request) → List (List ℕ) → Option Request
-request_of_file request ((a ∷ name) ∷ []) = Some (request (a ∷ name))
-request_of_file request _ = None
-
--- the names of two files: neither is empty, and the two differ
-abbrev pub request_of_files : (List ℕ → List ℕ → Request) → List (List ℕ) → Option Request
-request_of_files request ((a ∷ name) ∷ (b ∷ other) ∷ []) =
-    if bytes_eq (a ∷ name) (b ∷ other) then None else Some (request (a ∷ name) (b ∷ other))
-request_of_files request _ = None
-
--- the number of a generated page
-abbrev pub number_request : NumberAction → List (List ℕ) → Option Request
-number_request action (number ∷ []) = option_map (Number action) (number_of number)
-number_request action _ = None
-
--- the number of turns of such a word, where it is at most 600
-abbrev pub turns_of : List ℕ → Option ℕ
-turns_of word = option_and_then (λ n. if nat_le n 600 then Some n else None) (number_of word)
-
--- the name of a page, which isn't empty, and the number of turns of its flashing
-abbrev pub flash_request : List (List ℕ) → Option Request
-flash_request ((a ∷ name) ∷ number ∷ []) = option_map (Flash (a ∷ name)) (turns_of number)
-flash_request _ = None
-
--- what a first word asks for with the words after it
+-- what a first word asks for with the words after it: names of files, which aren't empty and differ, and numbers, of
+-- which that of turns is at most 600
 abbrev pub request_with : Word → List (List ℕ) → Option Request
-request_with (words.Page action) after = request_of_file (Page action) after
-request_with (words.Bytes action) after = request_of_file (Bytes action) after
-request_with (words.Script action) after = request_of_files (Script action) after
-request_with (words.Number action) after = number_request action after
-request_with words.Flash after = flash_request after
-request_with words.Plot after = request_of_files Drawing after
+request_with (words.Page action) ((a ∷ name) ∷ []) = Some (Page action (a ∷ name))
+request_with (words.Bytes action) ((a ∷ name) ∷ []) = Some (Bytes action (a ∷ name))
+request_with (words.Script action) ((a ∷ page) ∷ (b ∷ script) ∷ []) =
+    if bytes_eq (a ∷ page) (b ∷ script) then None else Some (Script action (a ∷ page) (b ∷ script))
+request_with (words.Number action) (number ∷ []) = option_map (Number action) (number_of number)
+request_with words.Flash ((a ∷ page) ∷ turns ∷ []) =
+    option_and_then (λ n. if nat_le n 600 then Some (Flash (a ∷ page) n) else None) (number_of turns)
+request_with words.Plot ((a ∷ page) ∷ (b ∷ drawing) ∷ []) =
+    if bytes_eq (a ∷ page) (b ∷ drawing) then None else Some (Drawing (a ∷ page) (b ∷ drawing))
+request_with _ _ = None
 
 -- what the words ask for
 unfoldable pub request_of : List (List ℕ) → Option Request
@@ -141,18 +121,6 @@ options_of_page pages.Write = record painting_options { end = ends.Page }
 abbrev pub options_of_script : ScriptAction → ReportOptions
 options_of_script scripts.Trace = record painting_options { refusals = true; edits_listed = true }
 options_of_script scripts.Edit = record painting_options { end = ends.Page }
-
--- of a generated page that is read and painted
-abbrev pub options_to_load : ReportOptions
-options_to_load = record painting_options { end = ends.Counts }
-
--- of a page and a drawing
-abbrev pub options_to_draw : ReportOptions
-options_to_draw = record painting_options { end = ends.Page }
-
--- of a page that flashes through so many turns
-abbrev pub options_of_phases : ℕ → ReportOptions
-options_of_phases turns = record painting_options { end = ends.Phases turns }
 
 -- commands are applied and painted
 abbrev pub is_painted : Way → Bool

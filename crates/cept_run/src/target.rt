@@ -23,7 +23,7 @@ pub enum Target {
     Nothing,
     /// A screen.
     Screen(Screen),
-    /// A screen whose edits can be taken back, and the script of the edits.
+    /// A screen whose edits can be undone, and the script of the edits.
     Editor(Editor, Script),
     /// A screen, and the drawing that is drawn on it after the page.
     Drawing(Screen, Drawing),

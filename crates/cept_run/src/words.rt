@@ -1,17 +1,16 @@
 //! The words of the program: which of them are a request, and what a request asks for.
 
-ghost use Rattle.std.specs.Prelude.{◌≡◌, ◌≢◌, ◌∷◌, [], map, codes, string_bytes, IfSome};
+ghost use Rattle.std.specs.Prelude.{◌≡◌, ◌≢◌, ◌∷◌, [], None, Some, map, codes, string_bytes, IfSome};
+ghost use Rattle.std.specs.Prelude.{if◌then◌else◌, nat_le};
 ghost use Rattle.std.specs.Char.{is_ascii_digit};
 ghost use Rattle.std.specs.List.{list_all};
-ghost use Rattle.std.specs.Option.{option_map};
-ghost use Rattle.cept_run.specs.Words.{options_of_page, options_of_phases, options_of_script};
-ghost use Rattle.cept_run.specs.Words.{options_to_draw, options_to_load, flash_request, number_of};
-ghost use Rattle.cept_run.specs.Words.{Page as OfPage, Bytes as OfBytes, Script as OfScript};
-ghost use Rattle.cept_run.specs.Words.{Drawing as OfDrawing, request_of_file, request_of_files};
-ghost use Rattle.cept_run.specs.Words.{is_counted, request_by, request_of, turns_of};
+ghost use Rattle.std.specs.Option.{option_map, option_and_then};
+ghost use Rattle.cept_run.specs.declared.words.End.TheVariants.{Phases};
+ghost use Rattle.cept_run.specs.declared.words.Word.TheVariants as asks;
+ghost use Rattle.cept_run.specs.Words.{options_of_page, options_of_script, painting_options};
+ghost use Rattle.cept_run.specs.Words.{number_of, request_by, request_of, request_with, word_of};
+ghost use Rattle.cept_run.specs.Words.{is_counted, is_painted, lists_changes, HasTwoNames};
 ghost use Rattle.cept_run.specs.inside.Reporting.{is_quiet};
-ghost use Rattle.cept_run.specs.Words.{is_painted, lists_changes};
-ghost use Rattle.cept_run.specs.Words.{number_request, word_of, HasTwoNames};
 
 /// What is asked for of a page.
 #[derive(Clone, Copy, Debug, PartialEq, Eq)]
@@ -220,7 +219,7 @@ pub const DRAW_OPTIONS: ReportOptions = ReportOptions {
 
 /// The options of a page that flashes through so many turns.
 pub fn options_of_phases(turns: u16) -> ReportOptions
-    ensures { result ≡ options_of_phases turns }
+    ensures { result ≡ record painting_options { end = Phases turns } }
 {
     ReportOptions {
         end: End::Phases(turns),
@@ -320,7 +319,7 @@ fn number_of(word: &str) -> Option<u32>
 /// An action and the one word after it, the name of a page.
 fn page_request<'a>(action: PageAction, words: &[&'a str]) -> Option<Request<'a>>
     ensures { option_map request_by result
-        ≡ request_of_file (OfPage action) (map (λ w. w.now) words.now) }
+        ≡ request_with (asks.Page action) (map (λ w. w.now) words.now) }
 {
     match words {
         [page] if !page.is_empty() => Some(Request::Page(action, page)),
@@ -331,7 +330,7 @@ fn page_request<'a>(action: PageAction, words: &[&'a str]) -> Option<Request<'a>
 /// An action and the one word after it, the name of a page.
 fn bytes_request<'a>(action: BytesAction, words: &[&'a str]) -> Option<Request<'a>>
     ensures { option_map request_by result
-        ≡ request_of_file (OfBytes action) (map (λ w. w.now) words.now) }
+        ≡ request_with (asks.Bytes action) (map (λ w. w.now) words.now) }
 {
     match words {
         [page] if !page.is_empty() => Some(Request::Bytes(action, page)),
@@ -342,7 +341,7 @@ fn bytes_request<'a>(action: BytesAction, words: &[&'a str]) -> Option<Request<'
 /// An action and the two words after it, the names of a page and of a script.
 fn script_request<'a>(action: ScriptAction, words: &[&'a str]) -> Option<Request<'a>>
     ensures request { option_map request_by result
-        ≡ request_of_files (OfScript action) (map (λ w. w.now) words.now) }
+        ≡ request_with (asks.Script action) (map (λ w. w.now) words.now) }
     ensures differ { IfSome result (λ request. HasTwoNames (request_by request)) }
 {
     match words {
@@ -355,7 +354,7 @@ fn script_request<'a>(action: ScriptAction, words: &[&'a str]) -> Option<Request
 
 /// An action and the one word after it, the number of a generated page.
 fn number_request<'a>(action: NumberAction, words: &[&'a str]) -> Option<Request<'a>>
-    ensures { option_map request_by result ≡ number_request action (map (λ w. w.now) words.now) }
+    ensures { option_map request_by result ≡ request_with (asks.Number action) (map (λ w. w.now) words.now) }
 {
     match words {
         [number] => Some(Request::Number(action, number_of(number)?)),
@@ -365,7 +364,7 @@ fn number_request<'a>(action: NumberAction, words: &[&'a str]) -> Option<Request
 
 /// The number of turns of a word of one to ten digits, at most 600.
 fn turns_of(word: &str) -> Option<u16>
-    ensures { result ≡ turns_of word.now }
+    ensures { result ≡ option_and_then (λ n. if nat_le n 600 then Some n else None) (number_of word.now) }
 {
     let number = number_of(word)?;
     if number <= 600 {
@@ -377,7 +376,7 @@ fn turns_of(word: &str) -> Option<u16>
 
 /// The two words after the first, the name of a page and a number of turns.
 fn flash_request<'a>(words: &[&'a str]) -> Option<Request<'a>>
-    ensures { option_map request_by result ≡ flash_request (map (λ w. w.now) words.now) }
+    ensures { option_map request_by result ≡ request_with asks.Flash (map (λ w. w.now) words.now) }
 {
     match words {
         [page, number] if !page.is_empty() => { Some(Request::Flash(page, turns_of(number)?)) }
@@ -388,7 +387,7 @@ fn flash_request<'a>(words: &[&'a str]) -> Option<Request<'a>>
 /// The two words after the first, the names of a page and of a drawing.
 fn drawing_request<'a>(words: &[&'a str]) -> Option<Request<'a>>
     ensures request { option_map request_by result
-        ≡ request_of_files OfDrawing (map (λ w. w.now) words.now) }
+        ≡ request_with asks.Plot (map (λ w. w.now) words.now) }
     ensures differ { IfSome result (λ request. HasTwoNames (request_by request)) }
 {
     match words {

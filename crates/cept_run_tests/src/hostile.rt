@@ -267,7 +267,7 @@ const REDO: Whole<'static> = Whole {
 };
 
 /// The output fails at the line of the undo and at that of the redo after it: what was put is a front of the
-/// whole, and the turn at whose line it failed is painted.
+/// whole, and the one at whose line it failed is painted.
 #[test]
 fn a_redo_is_painted_before_its_line(rt: HostRuntime) -> Result<(), Fail> {
     for room in 29..85u32 {
@@ -277,8 +277,8 @@ fn a_redo_is_painted_before_its_line(rt: HostRuntime) -> Result<(), Fail> {
             found.put.as_slice() == &REDO.put[..room as usize],
             "room {room}"
         );
-        let is_made_again = room >= 56;
-        assert!(rt; shows(&found.glass, 1) == is_made_again, "room {room}");
+        let is_redone = room >= 56;
+        assert!(rt; shows(&found.glass, 1) == is_redone, "room {room}");
     }
     Ok(())
 }

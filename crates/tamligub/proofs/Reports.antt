@@ -14,11 +14,11 @@ use Rattle.cept_run.specs.Course.{ScriptSource, NoScript, ScriptFile, IsReadFirs
 use Rattle.cept_run.specs.Events.{has_refusal}
 use Rattle.cept_run.specs.Outside.{PutsFront}
 use Rattle.cept_run.specs.Run.{EndsWhole, EndsAtScript, EndsAtWriteFault, IsPageUnread, IsReportCut, Ends, RunsCourse, ReadsFiles}
-use Rattle.cept_run.specs.Run.{TouchesShelf, fault_text, report_of, status_number}
+use Rattle.cept_run.specs.Run.{TouchesShelf, fault_text, status_number}
 use Rattle.cept_run.specs.declared.run.Status.{Status}
 use Rattle.cept_run.specs.declared.run.Status.TheVariants as statuses
 use Rattle.tamligub.specs.Called.{Holding, HasRun, Supplies, SuppliesScript, IsSupplied, IsScriptSupplied, fault_in, IsReported}
-use Rattle.tamligub.specs.Called.{Reported, IsMissed}
+use Rattle.tamligub.specs.Called.{Reported, IsMissed, report_of}
 use Rattle.tamligub.specs.Called.{IsFront, IsCutOff, IsFrontReported, FrontReported, IsFaultReported, FaultReported}
 
 -- a source has the bytes that the call supplies

@@ -3,6 +3,7 @@ use Rattle.std.specs.Prelude.{◌≡◌, ◌⊎◌, ◌<◌, ◌≤◌, ℕ, ◌
 use Rattle.std.specs.Prelude.{◌↔◌, true, Option, Some, None, bytes_eq}
 use Rattle.std.specs.Prelude.{if◌then◌else◌}
 use Rattle.cept_words.specs.Faults.{Fault}
+use Rattle.cept_editor.specs.Events.{report}
 use Rattle.cept_outside.specs.ShelfState.{Holds, bytes_under}
 use Rattle.cept_outside.specs.SinkState.{SinkState, empty_sink}
 use Rattle.cept_parser.specs.Items.{closed_items}
@@ -10,7 +11,7 @@ use Rattle.cept_profile.specs.Look.{grid}
 use Rattle.cept_run.specs.Course.{Course, Source, File, Given, first_fault_in, ScriptSource, NoScript, ScriptFile, course_of}
 use Rattle.cept_run.specs.Events.{has_refusal}
 use Rattle.cept_run.specs.Outside.{Outside}
-use Rattle.cept_run.specs.Run.{Runs, fault_text, report_of, status_number}
+use Rattle.cept_run.specs.Run.{Runs, fault_text, status_number}
 use Rattle.cept_run.specs.Words.{Request, request_of}
 use Rattle.cept_run.specs.declared.run.Status.{Status}
 use Rattle.tamligub.specs.Words.{words_for}
@@ -89,6 +90,10 @@ IsScriptSupplied (ScriptFile grammar name) = IsSupplied (File name)
 abbrev pub fault_in : ScriptSource → List ℕ → Option Fault
 fault_in NoScript bytes = None
 fault_in (ScriptFile grammar name) bytes = first_fault_in grammar bytes
+
+-- the report of a page and a script: a glass that was blank shows at the end what all commands mean that remain
+abbrev pub report_of : Course → List ℕ → List ℕ → List ℕ
+report_of course page script = report (course.events page script (grid (course.remaining page script)))
 
 -- the report stands in the slice, and the answer says whether an item of the page is refused
 pub record IsReported (course : Course) (page script old new : List ℕ) (put answer : ℕ) : Type 0 where

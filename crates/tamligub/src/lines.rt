@@ -91,7 +91,7 @@ pub extern "C" fn tamligub_line(
     line_answer(&lined)
 }
 
-/// How many edits can be taken back, at most 64; none where no decoder is open.
+/// How many edits can be undone, at most 64; none where no decoder is open.
 #[unsafe(no_mangle)]
 pub extern "C" fn tamligub_kept(alloc: Global, decoder: &mut Decoder) -> u32
     ensures { CountsOf (λ live. live.past) decoder.old decoder.new result }
@@ -104,7 +104,7 @@ pub extern "C" fn tamligub_kept(alloc: Global, decoder: &mut Decoder) -> u32
     kept
 }
 
-/// How many edits were taken back and can be made again, at most 64; none where no decoder is open.
+/// How many edits were undone and can be redone, at most 64; none where no decoder is open.
 #[unsafe(no_mangle)]
 pub extern "C" fn tamligub_undone(alloc: Global, decoder: &mut Decoder) -> u32
     ensures { CountsOf (λ live. live.future) decoder.old decoder.new result }

@@ -221,7 +221,7 @@ fn is_brought_back(rt: HostRuntime) -> Result<(), Fail> {
 }
 
 /// A page of one sign, and lines of a script after its end: two that begin with 2/3, a text, which is
-/// taken back, a line outside the grammar, and a second undo, which finds nothing.
+/// undone, a line outside the grammar, and a second undo, which finds nothing.
 #[test]
 fn is_edited(rt: HostRuntime) -> Result<(), Fail> {
     let alloc = rt.alloc();

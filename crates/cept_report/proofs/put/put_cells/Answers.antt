@@ -17,7 +17,7 @@ loop-n-preserved g c =
     let line = c.as_slice.ensures.value ∙ c.cell_text.ensures
     ∙ line_at-is _ _ _ _
     (MatchOption-at_some _ _ c.unwrap-at.result c.unwrap-at.ensures c.from_number.ensures.place)
-    c.shown.ensures.look in
+    c.shown_look.ensures.look in
     record {
       put = Gains-piece _ _ _ _ _ _ _ line c.loop-n.invariant.put c.in_ok-put_all.ensures.puts.whole;
       stays = c.in_ok-put_all.ensures.puts.cause.stays ∙ c.loop-n.invariant.stays;
@@ -28,7 +28,7 @@ returns-in_err-put_all g c =
     let line = c.as_slice.ensures.value ∙ c.cell_text.ensures
     ∙ line_at-is _ _ _ _
     (MatchOption-at_some _ _ c.unwrap-at.result c.unwrap-at.ensures c.from_number.ensures.place)
-    c.shown.ensures.look in
+    c.shown_look.ensures.look in
     rw (err_from_is_err_and c.from_residual.result c.from_residual.ensures.1).1
     (PutsText-part _ (g.T.Sink.state c.loop-n.sink) _ _ c.loop-n.invariant.stays (Gains-cell_failed _ _ _ _ _ c.args.rows _ (omega arith) line
     c.loop-n.invariant.put c.in_err-put_all.ensures.puts.part) c.in_err-put_all.ensures.puts.cause)

@@ -11,7 +11,7 @@ loop-i-init g c = record {
 
 pub loop-i-preserved : goal.loop-i-preserved
 loop-i-preserved g c = record {
-  text = row_line-more _ _ _ _ _ _ _ c.loop-i.invariant.text c.place.ensures c.shown.ensures.look
+  text = row_line-more _ _ _ _ _ _ _ c.loop-i.invariant.text c.place.ensures c.shown_look.ensures.look
       c.add_look_sign.ensures.text;
   room = omega arith;
 }

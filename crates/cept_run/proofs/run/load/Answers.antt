@@ -5,11 +5,15 @@ use Rattle.cept_run.specs.Course.{Given, NoScript, report_course}
 use Rattle.cept_run.specs.Outside.{outside_of}
 use Rattle.cept_run.specs.Reporting.{sequel_of}
 use Rattle.cept_run.specs.Run.{RunsCourse, status_at_end}
-use Rattle.cept_run.specs.Words.{options_to_load}
+use Rattle.cept_run.specs.declared.words.End.TheVariants as ends
+use Rattle.cept_run.specs.Words.{painting_options}
 use Rattle.std.proofs.lemmas.Result.{err_from_is_err_and}
 use Rattle.cept_run.proofs.NothingTouched.{runs_without_memory}
 use Rattle.cept_run.proofs.FreshDecoders.{plan_alone, nothing_alone, fresh_by, alone}
 use Rattle.cept_run.proofs.run.load.Goals as goal
+
+abbrev options_to_load : ReportOptions
+options_to_load = record painting_options { end = ends.Counts }
 
 -- there is no memory
 pub returns-in_err-target : goal.returns-in_err-target

@@ -7,10 +7,14 @@ use Rattle.cept_run.specs.Events.{Figures}
 use Rattle.cept_run.specs.Outside.{outside_of}
 use Rattle.cept_run.specs.Reporting.{sequel_of}
 use Rattle.cept_run.specs.Run.{RunsCourse, status_at_end}
-use Rattle.cept_run.specs.Words.{options_to_draw}
+use Rattle.cept_run.specs.declared.words.End.TheVariants as ends
+use Rattle.cept_run.specs.Words.{painting_options}
 use Rattle.cept_run.proofs.FreshDecoders.{target_drawn, plan_followed, sequel_followed, fresh_by, followed}
 use Rattle.cept_run.proofs.StoppedScripts.{script_read, ends_at_script}
 use Rattle.cept_run.proofs.run.report_drawn.Goals as goal
+
+abbrev options_to_draw : ReportOptions
+options_to_draw = record painting_options { end = ends.Page }
 
 -- the reading of the drawing stopped
 pub returns-in_err-drawing : goal.returns-in_err-drawing
