@@ -42,7 +42,7 @@ enum {
     TAMLIGUB_REFUSALS = 1,   /* the page was read to its end, and something in it is refused; the text is whole */
     TAMLIGUB_USAGE = 2,      /* no such word, or it takes something else than is given (but for 4), or no such number; no text */
     TAMLIGUB_BAD_SCRIPT = 3, /* a line of the script can't be read; the text says which */
-    TAMLIGUB_UNREAD = 4,     /* a number is given where the word takes a page or a script */
+    TAMLIGUB_UNREAD = 4,     /* NUMBER is given for a word that takes a page alone, or PAGE_AND_NUMBER for trace, edit or plot; no text */
     TAMLIGUB_NO_ROOM = 5,    /* the text is longer than `room`: its front was written */
     TAMLIGUB_NO_MEMORY = 6,  /* there is no memory for a screen or a script; never of `check`, `list`, `gen`, `seven`, `eight`; no text */
     TAMLIGUB_TOO_LONG = 7,   /* the page has more than 2^24 bytes, or the script more than 2^20 */
@@ -61,7 +61,7 @@ enum {
  * No pointer may be null, not even where the length is 0. `out` and `put` may overlap neither each other nor anything else that is
  * handed in; word, page and script may. What is handed in is read during the call alone, and nothing is kept between calls. Several
  * threads may call at once. `check`, `list`, `gen`, `seven` and `eight` take no memory. The other words take it by malloc, and give all of
- * it back; none is taken for the page or the text. */
+ * it back; none is taken for the page or the text. A call needs up to 650 KB of the stack of its thread. */
 uint32_t tamligub_run(const uint8_t *word, size_t word_length, uint32_t given, uint32_t number,
                       const uint8_t *page, size_t page_length, const uint8_t *script, size_t script_length,
                       uint8_t *out, size_t room, uint64_t *put);
@@ -78,10 +78,14 @@ uint32_t tamligub_run(const uint8_t *word, size_t word_length, uint32_t given, u
  * - All that a call may write to was written before, with anything: a list of notices may begin as zeros. What stands behind the notices
  *   that are written stays as it is.
  * - The room for notices is that for a byte, or for a phase of flashing, or more. Where it is less nothing is done.
+ * - Each call needs up to 280 KB of the stack of its thread.
  *
  * A decoder takes all its memory by malloc when it is opened, 247 KB; after that only tamligub_write and tamligub_snapshot take
  * some, and give it back, and the first edit takes about 2.3 MB, which are given back when the decoder is closed.
- * Where a call answers 1 no more was done than that `notices` is 0. */
+ * Where a call answers 1 no more was done than that `notices` is 0.
+ *
+ * Whether the cursor is on is for the host to keep, as no notice and no state tells it: each byte 0x11 that is fed puts it on and each byte
+ * 0x14 off, wherever they stand. It is at the active position. Neither a snapshot nor a written page has it: keep it beside them. */
 
 /* A decoder, where one is open: begin with = {0}. */
 typedef struct {
@@ -116,7 +120,12 @@ typedef struct {
     tamligub_colour colours[16];
 } tamligub_pattern;
 
-/* What an item or a line says. Kind 1: a place looks otherwise now. Kind 2: bytes are refused. What is said of the other kind alone is 0. */
+/* What an item or a line says. Kind 1: a place looks otherwise now. Kind 2: bytes are refused. What is said of the other kind alone is 0.
+ *
+ * What flashes goes through six phases, on a terminal of the service six a second: tamligub_flash_turn says what each changes. Of a
+ * concealed sign, which is told as any other, the background alone is shown until it is revealed, which is for the host to do. A lined sign
+ * has a line at its foot, or, where it is a block mosaic, gaps between its blocks; a boxed one has a dotted frame, also where it is
+ * concealed. tamligub_signs.h has the dots of each sign, and docs/PROFILE.md its character, under "Signs in Unicode". */
 typedef struct {
     uint64_t at;                   /* how many bytes stand before the item; of a line all bytes of the page */
     uint8_t kind;
@@ -186,11 +195,11 @@ uint32_t tamligub_colours(tamligub_decoder *decoder, tamligub_colour_entries *co
 /* Makes a line of a script, as the word `edit` does, after the page has ended: `line` is its bytes without the end of the line, such as
  * "at 1 2" or "undo". Writes at the front of `list` each place that a command of the line changes, once, in reading order, with its look
  * after the line; of an edit of one command, an undo and a redo these are the places that the word `trace` lists. Writes their number in
- * `notices`, and 0 in `reason`. Up to 64 edits can be taken back. From then on all calls tell of the page as it is edited. Answers
+ * `notices`, and 0 in `reason`. Up to 64 edits can be undone. From then on all calls tell of the page as it is edited. Answers
  *   0  the line was made
  *   1  no decoder is open, the page has not ended, or `room` is below TAMLIGUB_ROOM_FOR_A_LINE
- *   2  there is nothing to make: the line is empty or begins with "#", or it is an undo and no edit can be taken back, or a redo and
- *      none can be made again
+ *   2  there is nothing to make: the line is empty or begins with "#", or it is an undo and no edit can be undone, or a redo and
+ *      none can be redone
  *   3  the line is outside the grammar of scripts: `reason` says why, 1 to 6, in the order of cept_tool(1)
  *   6  there is no memory for the first edit
  *   7  the line has more than 2^20 bytes
@@ -198,7 +207,7 @@ uint32_t tamligub_colours(tamligub_decoder *decoder, tamligub_colour_entries *co
 uint32_t tamligub_line(tamligub_decoder *decoder, const uint8_t *line, size_t length, tamligub_notice *list, size_t room,
                        uint64_t *notices, uint32_t *reason);
 
-/* How many edits can be taken back, and how many were taken back and can be made again: 0 to 64; none where no decoder is open. */
+/* How many edits can be undone, and how many were undone and can be redone: 0 to 64; none where no decoder is open. */
 uint32_t tamligub_kept(tamligub_decoder *decoder);
 uint32_t tamligub_undone(tamligub_decoder *decoder);
 
@@ -214,15 +223,18 @@ uint32_t tamligub_write(tamligub_decoder *decoder, uint8_t *out, size_t room, ui
 uint32_t tamligub_snapshot(tamligub_decoder *decoder, uint8_t *out, size_t room, uint64_t *put);
 
 /* Opens a decoder in the state that a snapshot has; one that is open is closed first. From then on it says what the one would have said of
- * which the snapshot was taken. Nothing is said of what is shown already: tamligub_look tells it. Answers 0; 1 where the bytes are no
- * snapshot; 6 where there is no memory. In the last two cases none is open. */
+ * which the snapshot was taken. Nothing is said of what is shown already: tamligub_look tells it where flashing hadn't begun; where it had,
+ * blank the display and call tamligub_flash_start, which tells all of it from the first phase on. A front of a snapshot, or a changed one,
+ * may be that of another state: keep its length and a checksum beside it. Answers 0; 1 where the bytes are no snapshot; 6 where there is no
+ * memory. In the last two cases none is open. */
 uint32_t tamligub_restore(tamligub_decoder *decoder, const uint8_t *bytes, size_t length);
 
 /* What flashes looks otherwise from one of six phases to the next, as under the word `flash`; when they come is for the host to say. The
  * first call begins the first phase over a blank display, and tells all places that aren't blank. The second begins the next phase, after
  * the last one the first again, and tells the places that are shown otherwise: a place that was fed since the phase began shows its look as
- * it was fed. Without the first call the second begins the first phase over what was fed. Both answer 0; or 1 where no decoder is open or
- * `room` is below TAMLIGUB_ROOM_FOR_A_PHASE. */
+ * it was fed. Without the first call the second begins the first phase over what was fed. The looks are steady ones, as they are seen in
+ * the phase: `flash` is 0, a sign that isn't seen is a space without a line, and one of reduced intensity has its foreground halved in the
+ * last three phases. Both answer 0; or 1 where no decoder is open or `room` is below TAMLIGUB_ROOM_FOR_A_PHASE. */
 uint32_t tamligub_flash_start(tamligub_decoder *decoder, tamligub_notice *list, size_t room, uint64_t *notices);
 uint32_t tamligub_flash_turn(tamligub_decoder *decoder, tamligub_notice *list, size_t room, uint64_t *notices);
 

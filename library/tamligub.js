@@ -12,7 +12,7 @@
 //   finish()            those of the end of the page
 //   line(text)          those of a line of a script that is made after the end, null where there is nothing to make
 //   make(text)          makes a line, and tells only whether there was something to make
-//   kept(), undone()    how many edits can be taken back, and how many can be made again
+//   kept(), undone()    how many edits can be undone, and how many can be redone
 //   look(row, column)   how a place looks, as a notice
 //   state()             what the decoder keeps beside the page
 //   colours()           the colours in force: of the 32 entries, and which of them the four of the DCLUT name
@@ -257,7 +257,7 @@ class Decoder {
             const piece = bytes.subarray(0, BYTES_AT_ONCE);
             new Uint8Array(wasm.memory.buffer).set(piece, at);
             const taken = Number(this.call("tamligub_feed", ...[at, piece.length, list, ROOM, number].map(BigInt)));
-            if (taken === 0) throw new Error("the decoder takes no more bytes");
+            if (taken === 0) throw new Error(this.state().ended ? "the page has ended" : "the decoder takes no more bytes");
             after();
             bytes = bytes.subarray(taken);
         }

@@ -10,7 +10,8 @@ export interface Given {
 }
 
 export interface Answer {
-    /** 0 done, 1 refusals, 2 no such word, 3 a bad line, 4 a number where a page is taken, 5 no room, 6 no memory, 7 too long, 8 not seven. */
+    /** 0 done, 1 refusals, 2 no such word or other things than it takes, 3 a bad line, 4 a number alone for a word of a page alone or page
+     * and number for a word of a page and a script, 5 no room, 6 no memory, 7 too long, 8 not seven. */
     readonly status: number;
     /** What the word writes: text in UTF-8, or a page. */
     readonly text: Uint8Array;
@@ -49,7 +50,8 @@ export interface Notice {
     /** How many bytes stand before the item; of a line all bytes of the page. */
     readonly at: number;
     readonly kind: 1 | 2;
-    /** Of kind 2: how many bytes, and why, 1 to 7. */
+    /** Of kind 2: how many bytes, and why: 1 UnassignedControl, 2 UnknownEscape, 3 UnknownCsi, 4 UnknownUnit, 5 BadParameter, 6 Interrupted,
+     * 7 Truncated. */
     readonly length: number;
     readonly reason: number;
     /** Of kind 1, as is all that follows: row 1 to 24 from the top, column 1 to 40 from the left. */
@@ -63,46 +65,70 @@ export interface Notice {
     readonly h: number;
     readonly fore: Colour;
     readonly back: Colour;
-    /** 0 steady, 1 plain, 2 inverted, 3 reduced, 4 to 6 the fast ones. */
+    /** 0 steady, 1 plain, 2 inverted, 3 reduced, 4 to 6 the fast ones, which go through six phases, on a terminal of the service six a
+     * second: `flashTurn` says what each changes. */
     readonly flash: number;
+    /** 1 where the background alone is shown until the sign, which is told as any other, is revealed, which is for the host to do. */
     readonly conceal: number;
+    /** 1 where there is a line at the foot of the sign, or, of a block mosaic, where there are gaps between its blocks. */
     readonly lined: number;
+    /** 1 where there is a dotted frame, also around a concealed sign. */
     readonly boxed: number;
     readonly pattern: Pattern | null;
 }
 
 /** Attributes for the next signs under the parallel C1 set; 255 stands for one that isn't set. */
 export interface Pen {
+    /** Entries of the colour table, 0 to 31. */
     readonly fore: number;
     readonly back: number;
+    /** As in a notice. */
     readonly flash: number;
     readonly conceal: number;
     readonly lined: number;
     readonly boxed: number;
+    /** 0 normal, 1 twice as high, 2 twice as wide, 3 both. */
     readonly size: number;
     readonly invert: number;
 }
 
-/** Where a decoder stands; tamligub.h says what each field means. */
+/** Where a decoder stands. Whether the cursor, which is at row and column, is on is for the host to
+ * keep: each byte 0x11 that is fed puts it on and each byte 0x14 off, wherever they stand. Neither a snapshot nor a written page has it. */
 export interface State {
+    /** How many bytes were taken. */
     readonly fed: number;
+    /** How many of the last ones are no item yet. */
     readonly pending: number;
+    /** 1 where the page has ended. */
     readonly ended: number;
+    /** The active position. */
     readonly row: number;
     readonly column: number;
+    /** How many rows the format has, 20 or 24. */
     readonly rows: number;
+    /** 1 where a line goes on in the next one. */
     readonly wrap: number;
+    /** The rows of the scrolling area, 0 and 0 where there is none. */
     readonly first: number;
     readonly last: number;
+    /** 1 where it scrolls at its edges. */
     readonly implicit: number;
+    /** The revision of the rules, 1 or 2. */
     readonly revision: number;
+    /** The C1 set: 0 serial, 1 parallel. */
     readonly c1: number;
+    /** The sets G0 to G3, numbered as in a sign. */
     readonly g: readonly number[];
+    /** Which of the four left and right bytes take, 0 to 3. */
     readonly left: number;
     readonly right: number;
+    /** Which of them the next byte alone takes, or 0. */
     readonly single: number;
+    /** The accent that waits for its sign, or 0. */
     readonly accent: number;
+    /** The colour table, 0 to 3. */
     readonly table: number;
+    /** 1 where what is written is protected. */
     readonly protect: number;
     readonly pen: Pen;
 }
@@ -118,7 +144,8 @@ export class BadLine extends Error {
     readonly reason: number;
 }
 
-/** The module: by default the one of this package, else of its bytes, a Response, or what stands at a place. */
+/** The module: by default the one of this package, else of its bytes, a Response, or what stands at a place, which is a URL or its text
+ * (`file:` in Node); of a path hand in the bytes. */
 export function load(source?: WebAssembly.Module | BufferSource | Response | URL | string): Promise<WebAssembly.Module>;
 
 /** Runs the program on a word, such as "show" or "changes", and what is given after it. Nothing is kept between calls. A RangeError is thrown
@@ -128,7 +155,8 @@ export function run(module: WebAssembly.Module, word: string, given?: Given): An
 /** A decoder that is fed bytes as they come, and then edited line by line. Many of them may live in one instance. What can't be done is thrown. */
 export class Decoder {
     constructor(host: WebAssembly.Module | WebAssembly.Instance);
-    /** A decoder in the state that a snapshot has. */
+    /** A decoder in the state that a snapshot has. What is shown already is told by `look` where flashing hadn't begun, else by `flashStart`.
+     * A front of a snapshot, or a changed one, may be that of another state: keep its length and a checksum beside it. */
     static restored(host: WebAssembly.Module | WebAssembly.Instance, snapshot: Uint8Array): Decoder;
     /** Feeds bytes, and answers what their items change or refuse, in order. */
     feed(bytes: Uint8Array): Notice[];
@@ -141,7 +169,7 @@ export class Decoder {
     line(text: string | Uint8Array): Notice[] | null;
     /** Makes a line, and tells only whether there was something to make. */
     make(text: string | Uint8Array): boolean;
-    /** How many edits can be taken back, and how many were and can be made again, 0 to 64. */
+    /** How many edits can be undone, and how many were and can be redone, 0 to 64. */
     kept(): number;
     undone(): number;
     /** How a place looks: row 1 to 24, column 1 to 40; a RangeError is thrown of any other. */
@@ -152,7 +180,8 @@ export class Decoder {
     write(): Uint8Array;
     /** All of the state as bytes, those under way included. */
     snapshot(): Uint8Array;
-    /** The places seen at the start of flashing, and those that the next of six phases changes. */
+    /** The places seen at the start of flashing, over a blank display, and those that the next of six phases changes. Their looks are steady
+     * ones, as they are seen in the phase. */
     flashStart(): Notice[];
     flashTurn(): Notice[];
     /** Gives the memory back. */

@@ -30,6 +30,21 @@ TURNS = ("0", "6", "601", "4294967295")
 MOST_TURNS = "600"
 
 
+def program_at(path):
+    """The whole path of the program; the test ends where there is none."""
+    if not (os.path.isfile(path) and os.access(path, os.X_OK)):
+        raise SystemExit(f"there is no program {path}: ./build makes crates/cept_tool/out/cept_tool")
+    return os.path.abspath(path)
+
+
+def library_at(folder):
+    """The whole path of a folder with the libraries; the test ends where there are none."""
+    archive = os.path.join(folder, "libtamligub.a")
+    if not os.path.isfile(archive):
+        raise SystemExit(f"there is no {archive}: library/build {folder} makes it")
+    return os.path.abspath(folder)
+
+
 def read(path):
     with open(path, "rb") as file:
         return file.read()

@@ -53,12 +53,13 @@ function pages(module, seed, turns, paths) {
     for (let put = 0; put < all.length; ) put += fs.writeSync(1, all, put);
 }
 
-function isThrown(call) {
+// Whether a call throws, and with this text where one is given.
+function isThrown(call, text) {
     try {
         call();
         return false;
     } catch (fault) {
-        return fault instanceof Error;
+        return fault instanceof Error && fault.message === (text ?? fault.message);
     }
 }
 
@@ -101,8 +102,9 @@ function many(module, paths) {
     const last = new Decoder(instance);
     sayWhatTheyTake(module, last);
     last.finish();
-    if (!isThrown(() => last.feed(Uint8Array.of(65))) || !isThrown(() => last.finish())) fail("a page that has ended goes on");
-    if (!isThrown(() => last.snapshot()) || !isThrown(() => Decoder.restored(instance, all[0]))) fail("there is a snapshot that is none");
+    const late = [() => last.feed(Uint8Array.of(65)), () => last.skim(Uint8Array.of(65)), () => last.finish(), () => last.snapshot()];
+    if (!late.every((call) => isThrown(call, "the page has ended"))) fail("a page that has ended goes on, or that isn't said");
+    if (!isThrown(() => Decoder.restored(instance, all[0]))) fail("there is a snapshot that is none");
     const nowhere = [[0, 1], [1, 41], [257, 1], [1, 257], [1.5, 1], ["1", 1]];
     if (!nowhere.every((place) => isThrown(() => last.look(...place)))) fail("there is a place that isn't there");
     const wrong = [-1, 1.5, 2 ** 32, "1"];

@@ -1,7 +1,7 @@
 /* Makes the lines of scripts on decoders whose pages have ended, and puts what these say. library/test_lines runs it.
  *
  *   lines PAGE SCRIPT..   of each page and its script, each text with its name and length in a line before it: what each line changes, as
- *                         `trace` has it, but each place once a line; the page as bytes; and how many edits can be taken back and made again
+ *                         `trace` has it, but each place once a line; the page as bytes; and how many edits can be undone and redone
  */
 #include "decoder.h"
 

@@ -4,6 +4,10 @@ A page is a stored page as bytes, as it came over the line. `show`, `check`, `ch
 a `Decoder` is fed bytes as they come. Times are counted in bytes: `at` is how many of them stand before an item. Rows count from 1 to 24
 and columns from 1 to 40.
 
+`TooLong` is raised where a whole page has more than 2^24 bytes, or a script, a drawing or a line more than 2^20; `BadScript` where one of
+these can't be read; `NotSeven` by `eight`; `Closed` and `NoSnapshot` by a `Decoder`; `Missing` where the shared library isn't there; and
+MemoryError by any call for which there is no memory.
+
 >>> from tamligub import Decoder, show
 >>> print(show(b"Guten Tag")[:9])
 Guten Tag

@@ -99,7 +99,7 @@ def library() -> ctypes.CDLL:
         if place == looked[-1] or os.path.exists(place):
             try:
                 return at(place)
-            except OSError as fault:
+            except (OSError, AttributeError) as fault:
                 told = f"looked for as {', '.join(looked)}; ./build of a checkout makes it, and {VARIABLE} can name it"
                 raise Missing(f"the shared library {NAME} can't be loaded: {told} ({fault})") from None
     raise AssertionError("the last place is always tried")

@@ -5,7 +5,7 @@ import ctypes
 import threading
 from operator import index
 from types import TracebackType
-from typing import Final
+from typing import Final, NoReturn, SupportsIndex
 
 from . import binding, words
 from .faults import BadScript, Closed, NoSnapshot, TooLong
@@ -32,11 +32,22 @@ class Room(threading.local):
 shared: Final = Room()
 
 
+class Here(threading.local):
+    """What tells a thread from all others: its number may be given out again once it has ended."""
+
+    def __init__(self) -> None:
+        self.token = object()
+
+
+here: Final = Here()
+
+
 class Decoder:
     """A decoder of one page, before its first byte. It takes 247 KB of memory, from its first edit on 2.3 MB more, gives them back when it
-    is closed or forgotten, and may be used in a `with` block. It stays on the thread that made it, whose decoders share 707 KB for notices:
-    calls from another one raise RuntimeError. `Closed` is raised by calls on one that is closed, and by what a page that has ended can't do
-    any more; MemoryError where there is no memory.
+    is closed, or forgotten by the thread that made it, and may be used in a `with` block; one that another thread forgets keeps its memory,
+    so close it. It stays on its thread, whose decoders share 707 KB for notices: calls from another one raise RuntimeError. A call needs up
+    to 280 KB of the stack, `text` 650 KB. `Closed` is raised by calls on one that is closed, and by what a page that has ended can't do any
+    more; MemoryError where there is no memory. It isn't copied: `restored` makes another of a `snapshot`.
 
     >>> with Decoder() as decoder:
     ...     for notice in decoder.feed(b"A\\x1fBCB"):
@@ -49,7 +60,7 @@ class Decoder:
 
     def __init__(self) -> None:
         self._calls = binding.library()
-        self._handle, self._thread = binding.Handle(), threading.get_ident()
+        self._handle, self._thread = binding.Handle(), here.token
         if self._calls.tamligub_open(self._handle) != binding.DONE:
             raise MemoryError("there is no memory for a decoder")
 
@@ -61,12 +72,15 @@ class Decoder:
 
     def __del__(self) -> None:
         # Only the thread that opened it may close it; where that is another one the memory stays taken.
-        if getattr(self, "_thread", None) == threading.get_ident() and self._handle.is_open:
+        if getattr(self, "_thread", None) is here.token and self._handle.is_open:
             self._calls.tamligub_close(self._handle)
+
+    def __reduce_ex__(self, protocol: SupportsIndex) -> NoReturn:
+        raise TypeError("a decoder isn't copied: Decoder.restored(decoder.snapshot()) makes another")
 
     def _own(self) -> binding.Handle:
         """The decoder as C knows it."""
-        if threading.get_ident() != self._thread:
+        if here.token is not self._thread:
             raise RuntimeError("a decoder stays on the thread that made it")
         if not self._handle.is_open:
             raise Closed("the decoder is closed")
@@ -79,7 +93,7 @@ class Decoder:
 
     def feed(self, data: bytes | bytearray | memoryview) -> Notices:
         """Feeds bytes, in pieces of any size, and answers what their items change or refuse, in order. All bytes are taken before it
-        answers. `Closed` where the page has ended, OverflowError where it would have more than 2^32 bytes.
+        answers. `Closed` where there are bytes and the page has ended, OverflowError where it would have more than 2^32 bytes.
 
         >>> [str(one) for one in Decoder().feed(b"\\x8f\\x9b\\x9b")]
         ['! 1 1 6 Interrupted']
@@ -124,12 +138,12 @@ class Decoder:
         return None if answer == binding.NO_LINE else Notices(shared.records())
 
     def kept(self) -> int:
-        """How many edits can be taken back, 0 to 64."""
+        """How many edits can be undone, 0 to 64."""
         kept: int = self._calls.tamligub_kept(self._own())
         return kept
 
     def undone(self) -> int:
-        """How many edits were taken back and can be made again, 0 to 64."""
+        """How many edits were undone and can be redone, 0 to 64."""
         undone: int = self._calls.tamligub_undone(self._own())
         return undone
 
@@ -144,7 +158,8 @@ class Decoder:
         return colours_of(ctypes.string_at(shared.list, binding.SIZE_OF_COLOURS))
 
     def flash_start(self) -> Notices:
-        """Begins the first of six phases of flashing over a blank display: a change for each place that isn't blank."""
+        """Begins the first of six phases of flashing over a blank display: a change for each place that isn't blank. Looks
+        are steady ones here and in `flash_turn`, as they are seen in the phase."""
         return self._noticed("tamligub_flash_start", "the decoder is closed")
 
     def flash_turn(self) -> Notices:
@@ -205,7 +220,8 @@ class Decoder:
         return self._written("tamligub_write")
 
     def snapshot(self) -> bytes:
-        """All of the state as bytes, also those that are no item yet and the phase of flashing. `Closed` where the page has ended."""
+        """All of the state as bytes, also those that are no item yet and the phase of flashing. A front of a snapshot, or a changed one, may
+        be that of another state: keep its length and a checksum beside it. `Closed` where the page has ended."""
         return self._written("tamligub_snapshot")
 
     def _written(self, name: str) -> bytes:
@@ -223,8 +239,9 @@ class Decoder:
             room *= 4
 
     @classmethod
-    def restored(cls, snapshot: bytes) -> Decoder:
-        """A decoder in the state that a snapshot has. `NoSnapshot` where the bytes are none.
+    def restored(cls, snapshot: bytes | bytearray | memoryview) -> Decoder:
+        """A decoder in the state that a snapshot has. What is shown already is told by `look` and `screen` where flashing hadn't begun; where
+        it had, `flash_start` tells it over a blank display, from the first phase on. `NoSnapshot` where the bytes are none.
 
         >>> first = Decoder()
         >>> _ = first.feed(b"\\x1b")

@@ -3,7 +3,7 @@ from __future__ import annotations
 
 
 class TooLong(ValueError):
-    """The page has more than 2^24 bytes, or the script or drawing more than 2^20."""
+    """The page has more than 2^24 bytes, or the script, the drawing or the line more than 2^20."""
 
 
 class BadScript(ValueError):

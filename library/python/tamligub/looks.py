@@ -6,6 +6,8 @@ import struct
 from dataclasses import dataclass
 from typing import Final
 
+from . import binding
+
 ROWS: Final = 24
 COLUMNS: Final = 40
 SETS: Final = "PSMND"
@@ -15,6 +17,9 @@ LINE_REASONS: Final = ("UnknownWord", "WrongCount", "BadNumber", "BadText", "Bad
 CHANGE: Final = 1
 NOTHING, SIGN, PATTERN = range(3)
 UNSET: Final = 255
+# What has the next byte be of each set, on a page that begins; what has an accent be the next one's.
+WRITES: Final = {"P": b"", "S": b"\x19", "M": b"\x0e", "N": b"\x1d", "D": b"\x1b\x28\x20\x40"}
+ACCENTS: Final = b"\x19"
 
 
 @dataclass(frozen=True, slots=True)
@@ -38,6 +43,13 @@ class Colour:
         return "---" if self.behind else f"{self.red:X}{self.green:X}{self.blue:X}"
 
 
+@functools.lru_cache(2**11)
+def text_of(of_set: str, code: int, accent: int) -> str:
+    """What the word `show` has for a sign at the first place of a page."""
+    page = WRITES[of_set] + (ACCENTS + bytes([accent]) if accent else b"") + bytes([code])
+    return binding.run("show", page).text.decode().partition("\n")[0].rstrip() or " "
+
+
 @dataclass(frozen=True, slots=True)
 class Sign:
     """A sign: the letter of its set (P primary, S supplementary, M and N mosaics, D downloaded), its code, 0x20 to 0x7F, and the code of
@@ -46,6 +58,16 @@ class Sign:
     set: str
     code: int
     accent: int = 0
+
+    @property
+    def text(self) -> str:
+        """The character in Unicode, as the word `show` has it, with the mark of its accent behind it; the first time it is asked for, the
+        library runs that word.
+
+        >>> [Sign("P", 0x41).text, Sign("S", 0x7B).text, len(Sign("P", 0x6F, 0x48).text), Sign("M", 0x21).text]
+        ['A', 'ß', 2, '▒']
+        """
+        return text_of(self.set, self.code, self.accent)
 
     def __str__(self) -> str:
         return f"{self.set}{self.code:02X}" + (f"+{self.accent:02X}" if self.accent else "")
@@ -81,8 +103,10 @@ class Pattern:
 @dataclass(frozen=True, slots=True)
 class Look:
     """What is seen at a place: a sign, a pattern or nothing (`shape`); the place is `down` rows and `right` columns from the origin of its
-    sign, of `high` by `wide` places. `flash` is S steady, F plain, I inverted, R reduced, or 1 to 3 for the fast ones. Its text is that of
-    the word `cells`."""
+    sign, of `high` by `wide` places. `flash` is S steady, F plain, I inverted, R reduced, or 1 to 3 for the fast ones, which go through six
+    phases (`Decoder.flash_turn`). Of a concealed sign the background alone is shown until it is revealed, which is for the host to do. A
+    lined sign has a line at its foot, or, where it is a block mosaic, gaps between its blocks; a boxed one has a dotted frame. Its text is
+    that of the word `cells`."""
 
     shape: Sign | Pattern | None
     high: int
@@ -157,7 +181,8 @@ class State:
     ended; the active position; how many rows the format has, whether lines wrap; the first and last row of the scrolling area (0 and 0 where
     there is none), whether it scrolls at its edges; the revision of the rules; whether the C1 set is the parallel one; the letters of the
     sets G0 to G3; which of these left and right bytes take, which the next byte alone takes (or 0), the accent that waits (or 0); the colour
-    table; whether what is written is protected; and the pen."""
+    table; whether what is written is protected; and the pen. Whether the cursor is on is for the host to keep: each byte 0x11 that is fed
+    puts it on and each byte 0x14 off, wherever they stand."""
 
     fed: int
     pending: int

@@ -35,12 +35,12 @@ LAYOUT: Final[Layout] = {
 
 class Notices(Sequence[Notice]):
     """Changes and refusals in their order. `buffer` has them as records of 184 bytes, one after the other, so that those of a long page
-    are no objects each; an index, or a walk, makes a value of each record that is reached.
+    are no objects each; an index, or a walk, makes a value of each record that is reached. Those with the same records are equal.
 
     >>> from tamligub import Decoder
     >>> said = Decoder().feed(b"AB")
-    >>> len(said), len(said.buffer), str(said[1])
-    (2, 368, '1 1 2 P42 11.00 FFF 000 S---')
+    >>> len(said), len(said.buffer), str(said[1]), said == Decoder().feed(b"AB")
+    (2, 368, '1 1 2 P42 11.00 FFF 000 S---', True)
     """
 
     __slots__ = ("buffer",)
@@ -60,12 +60,20 @@ class Notices(Sequence[Notice]):
     def __getitem__(self, index: int | slice) -> Notice | list[Notice]:
         if isinstance(index, slice):
             return [self[one] for one in range(*index.indices(len(self)))]
-        number = range(len(self))[index]
+        try:
+            number = range(len(self))[index]
+        except IndexError:
+            raise IndexError(f"there is no notice {index} of {len(self)}") from None
         return notice_of(self.buffer[number * SIZE_OF_NOTICE : (number + 1) * SIZE_OF_NOTICE])
 
     def __iter__(self) -> Iterator[Notice]:
         for start in range(0, len(self.buffer), SIZE_OF_NOTICE):
             yield notice_of(self.buffer[start : start + SIZE_OF_NOTICE])
+
+    def __eq__(self, other: object) -> bool:
+        if not isinstance(other, Notices):
+            return NotImplemented
+        return self.buffer == other.buffer
 
     def __repr__(self) -> str:
         return f"<Notices: {len(self)}>"

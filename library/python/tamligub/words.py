@@ -1,5 +1,6 @@
 """The words of the program, as functions over the bytes of a page. Each reads the page as a whole; pages have at most 2^24 bytes, scripts
-and drawings 2^20, and `TooLong` is raised by longer ones. MemoryError comes where there is no memory."""
+and drawings 2^20, and `TooLong` is raised by longer ones. MemoryError comes where there is no memory. A call needs up to 650 KB of the stack
+of its thread."""
 from __future__ import annotations
 
 from dataclasses import dataclass
@@ -40,7 +41,7 @@ def text_of(word: str, page: bytes | None = None, script: bytes | None = None, n
     raise ValueError(f"{word} doesn't take what it was given")
 
 
-def check(page: bytes) -> Check:
+def check(page: bytes | bytearray | memoryview) -> Check:
     """Which items of a page are refused, and how many items there are. No screen is made.
 
     >>> check(b"A\\x9b\\x9b")
@@ -51,7 +52,7 @@ def check(page: bytes) -> Check:
     return Check(int(last.split(" ")[1]), tuple(Refusal(int(at), int(length), int(reason)) for _, at, length, reason, _ in fields))
 
 
-def changes(page: bytes) -> Notices:
+def changes(page: bytes | bytearray | memoryview) -> Notices:
     """For each item of a page the places that it changes, or its refusal, to its end.
 
     >>> [str(one) for one in changes(b"AB")]
@@ -66,7 +67,7 @@ def changes(page: bytes) -> Notices:
         return Notices(decoder.feed(held).buffer + decoder.finish().buffer)
 
 
-def show(page: bytes) -> str:
+def show(page: bytes | bytearray | memoryview) -> str:
     """The screen at the end of a page as text: a line of 40 signs for each of its 20 or 24 rows.
 
     >>> show(b"Guten Tag").splitlines()[0].rstrip()
@@ -75,12 +76,12 @@ def show(page: bytes) -> str:
     return text_of("show", binding.held(page)).decode("utf-8")
 
 
-def write(page: bytes) -> bytes:
+def write(page: bytes | bytearray | memoryview) -> bytes:
     """The page at its end as bytes, which bring it back: nothing in them is refused, and written again they are the same."""
     return text_of("write", binding.held(page))
 
 
-def edit(page: bytes, script: bytes) -> bytes:
+def edit(page: bytes | bytearray | memoryview, script: bytes | bytearray | memoryview) -> bytes:
     """The page after the edits of a script, as bytes like those of `write`. `BadScript` names a line that can't be read.
 
     >>> show(edit(b"", b"at 1 3\\ntext Hallo\\n")).splitlines()[0].rstrip()
@@ -92,7 +93,7 @@ def edit(page: bytes, script: bytes) -> bytes:
     return text_of("edit", binding.held(page), binding.held(script))
 
 
-def plot(page: bytes, drawing: bytes) -> bytes:
+def plot(page: bytes | bytearray | memoryview, drawing: bytes | bytearray | memoryview) -> bytes:
     """The page with a drawing on its field of 80 by 72 points, as bytes like those of `write`. `BadScript` names a line that can't be read.
 
     >>> show(plot(b"", b"plot 0 0\\n"))[0] == " "
@@ -101,7 +102,7 @@ def plot(page: bytes, drawing: bytes) -> bytes:
     return text_of("plot", binding.held(page), binding.held(drawing))
 
 
-def seven(page: bytes) -> bytes:
+def seven(page: bytes | bytearray | memoryview) -> bytes:
     """The bytes of a page in seven bits, at most three for each.
 
     >>> seven(b"A\\xe1")
@@ -110,7 +111,7 @@ def seven(page: bytes) -> bytes:
     return text_of("seven", binding.held(page))
 
 
-def eight(page: bytes) -> bytes:
+def eight(page: bytes | bytearray | memoryview) -> bytes:
     """Bytes in seven bits back in eight. `NotSeven` where they aren't in seven."""
     return text_of("eight", binding.held(page))
 
