@@ -25,6 +25,6 @@ def run(path: program.Runner, options: argparse.Namespace) -> int:
     told = faults.told(path, options.script, data, kind)
     lines = typed.lines_of(data)
     files.write_utf8()
-    for line in [*told, f"lines {len(lines) - (lines[-1] == '')} bad {len(told)}"]:
+    for line in [*told, *faults.hint(options.script, data, kind), f"lines {len(lines) - (lines[-1] == '')} bad {len(told)}"]:
         print(line)
     return Status.BAD_SCRIPT if told else Status.DONE

@@ -18,14 +18,20 @@ REASONS = {
 }
 NO_PAGE = "/dev/null"
 LONGEST = 60
+# What is said where each line is one of the other kind.
+OTHERS = {
+    "script": ("drawing", "it looks like a drawing: plot takes it, and check-script --drawing checks it"),
+    "drawing": ("script", "it looks like a script: edit takes it, and check-script without --drawing checks it"),
+}
 
 
 def named(sign: str) -> str:
     """A sign with its number and its name in Unicode, as far as it can be seen and has one."""
+    if sign == "\t":
+        return "a tab"
     number = " ".join(f"U+{ord(point):04X}" for point in sign)
-    name = unicodedata.name(sign[0], "")
-    seen = sign if sign.isprintable() and not sign.isspace() else ""
-    return " ".join(filter(None, [seen, f"({number} {name})" if name else f"({number})"]))
+    name = " ".join(filter(None, [number, unicodedata.name(sign[0], "")]))
+    return f"{sign} ({name})" if sign.isprintable() and not sign.isspace() else name
 
 
 def of_sign(place: int, sign: str) -> str:
@@ -145,3 +151,11 @@ def told(path: program.Runner, name: str, data: bytes, kind: str) -> list[str]:
         text = typed.shown(line)
         sentences.append(f"{typed.shown(name)}, line {number}: {fault}: {text if len(text) <= LONGEST else text[:LONGEST] + '…'}")
     return sentences
+
+
+def hint(name: str, data: bytes, kind: str) -> list[str]:
+    """A sentence, where it is of the other kind that all lines begin with words; else none."""
+    other, said = OTHERS[kind]
+    lines = [line for line in map(typed.spaced, typed.lines_of(data)) if line and not line.startswith("#")]
+    is_other = all(line.partition(" ")[0] in grammar.WORDS[other] for line in lines)
+    return [f"{typed.shown(name)}: {said}"] if lines and is_other else []

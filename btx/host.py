@@ -137,6 +137,9 @@ class Host:
             await self.serve(line)
         except asyncio.TimeoutError:
             say(f"host: {line.name} is dropped: it asked for no page within {self.options.patience} seconds")
+        except ConnectionError:
+            # The guest left while bytes went out to it, as others do who end their line.
+            return
         except OSError as fault:
             say(f"host: {line.name} is dropped: {messages.why(fault)}")
         except asyncio.CancelledError:

@@ -105,9 +105,9 @@ def no_request(run: Run) -> str:
 
 
 def bad_lines(run: Run) -> str:
-    """Which lines of the script or the drawing are bad, and what is wrong in each."""
-    script = run.given.typed or b""
-    return "\nbtx: ".join(f"{run.word}: {one}" for one in faults.told(run.path, run.words[1], script, kind_of(run.word)))
+    """Which lines of the script or the drawing are bad, and what is wrong in each; and whether it looks like the other of these."""
+    name, script, kind = run.words[1], run.given.typed or b"", kind_of(run.word)
+    return "\nbtx: ".join(f"{run.word}: {one}" for one in [*faults.told(run.path, name, script, kind), *faults.hint(name, script, kind)])
 
 
 def unreadable(run: Run) -> str:

@@ -34,6 +34,11 @@ def are_request(word: str, words: Sequence[str]) -> bool:
     return wanted[0] == "PAGE" and len(set(words)) == len(words) == len(wanted) and "" not in words
 
 
+def are_bytes(word: str, words: Sequence[str]) -> bool:
+    """Whether the program would write a page as bytes, which are no text."""
+    return word in program.WRITING and len(words) == len(program.WORDS[word][0].split(" "))
+
+
 def script_of(word: str, words: Sequence[str]) -> bytes | None:
     """The bytes of the script or the drawing that the words name. One that can't be read is left to the program, which says so."""
     try:
@@ -92,6 +97,9 @@ def run(path: program.Runner, word: str, words: Sequence[str]) -> int:
     words, out = parted(words)
     if out == "":
         say(f"{word}: -o takes a FILE after it\n{messages.usage(word)}")
+        return 2
+    if out is None and are_bytes(word, words) and os.isatty(messages.OUTPUT):
+        say(f"{word}: a terminal shows no page's bytes; -o FILE writes them into a file")
         return 2
     named = messages.files_of(word, words) if are_request(word, words) else []
     with files.patience(*named), given(word, words, out) as handed:

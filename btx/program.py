@@ -37,6 +37,8 @@ WORDS = {
     "gen": ("NUMBER", "the generated page of a number, 0 to 4294967295, as bytes"),
     "load": ("NUMBER", "how many bytes, items and paints the generated page of a number has"),
 }
+# The words that write a page as bytes, which are no text.
+WRITING = ("write", "seven", "eight", "edit", "plot", "gen")
 # The words whose second file has lines: a script or a drawing.
 SCRIPTED = ("trace", "edit", "plot")
 # What stands after a word: a name or a number; the library takes the bytes of a page too.

@@ -72,6 +72,7 @@ class Faults(stand.Case):
             ("qqqq", "qqqq is no word of scripts"), ("raw 411f4", "raw takes two digits for each byte, and here stand 5"),
             ("  raw 41zz", "sign 9 is z, which is no hexadecimal digit"),
             ("\ttext ö„", "sign 8 is „ (U+201E DOUBLE LOW-9 QUOTATION MARK), which no set has"),
+            ("text Öffnung\t8 Uhr", "sign 13 is a tab, which no set has"),
         ):
             shown = line.replace("\t", "\\t")
             self.assertTrue(self.checked(line)[1].endswith(f"{said}: {shown}"), (line, self.checked(line)))
@@ -99,6 +100,19 @@ class Faults(stand.Case):
             told = [f"btx: {word}: {script}, line {number}: {found[number]}" for number in sorted(found)]
             self.assertEqual(done.stderr.decode().splitlines(), told)
 
+    def test_a_drawing_that_is_taken_for_a_script_is_told_and_a_script_for_a_drawing(self):
+        drawing, script = (self.written(name, data) for name, data in (("one", b"# a\n\nplot 1 1\n line  0 0 9 9\n"), ("other", b"at 1 1\ntext A\n")))
+        for path, options, word, said in (
+            (drawing, (), "edit", "it looks like a drawing: plot takes it, and check-script --drawing checks it"),
+            (script, ("--drawing",), "plot", "it looks like a script: edit takes it, and check-script without --drawing checks it"),
+        ):
+            listed = stand.btx("check-script", *options, path)
+            self.assertEqual((listed.returncode, listed.stdout.decode().splitlines()[-2]), (3, f"{path}: {said}"))
+            done = stand.btx(word, stand.page("title"), path)
+            self.assertEqual((done.returncode, done.stderr.decode().splitlines()[-1]), (3, f"btx: {word}: {path}: {said}"))
+        for data, options in ((b"plot 1 1\ntext A\n", ()), (b"plot 1\n", ("--drawing",)), (b"# a\n", ()), (b"", ())):
+            self.assertNotIn(b"looks like", stand.btx("check-script", *options, self.written("mixed", data)).stdout)
+
     def test_the_program_runs_once_and_twice_for_each_line_with_bad_bytes(self):
         log = self.path("log")
         counting = self.written("counting", f'#!/bin/sh\necho run >> {log}\nexec {stand.program} "$@"\n'.encode())
@@ -120,8 +134,8 @@ class Faults(stand.Case):
         done = stand.btx("check-script", script, env=stand.environment(PYTHONIOENCODING="ascii"))
         self.assertEqual((done.returncode, done.stderr), (3, b""))
         first, last = done.stdout.decode().splitlines()
-        self.assertIn("\\xff\\n, line 1: sign 6 is (U+202E RIGHT-TO-LEFT OVERRIDE), which no set has; sign 7 is „", first)
-        self.assertTrue(first.endswith("sign 8 is (U+001B), which no set has: text \\u202e„\\x1b"), first)
+        self.assertIn("\\xff\\n, line 1: sign 6 is U+202E RIGHT-TO-LEFT OVERRIDE, which no set has; sign 7 is „", first)
+        self.assertTrue(first.endswith("sign 8 is U+001B, which no set has: text \\u202e„\\x1b"), first)
         self.assertEqual(last, "lines 1 bad 1")
 
     def test_a_script_that_is_too_long_or_is_not_there(self):

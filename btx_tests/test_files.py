@@ -1,4 +1,5 @@
 """Standard input by the name -, files that -o names, a page alone, and help. What is put is compared with what the program puts."""
+import contextlib
 import os
 import select
 import subprocess
@@ -76,6 +77,28 @@ class Files(stand.Case):
                 self.assertEqual((done.returncode, done.stdout, done.stderr), (0, b"", b""), words)
                 self.assertEqual(self.bytes_of(out), stand.put(*request))
                 os.remove(out)
+
+    def test_a_terminal_is_given_no_bytes_of_a_page_unasked(self):
+        page, empty = stand.page("title"), self.written("empty", b"")
+        requests = (["write", page], ["seven", page], ["eight", page], ["edit", page, empty], ["plot", page, empty], ["gen", "1"])
+        for words in requests:
+            said = f"btx: {words[0]}: a terminal shows no page's bytes; -o FILE writes them into a file\n"
+            self.assertEqual(self.at_terminal(*words), (2, b"", said.encode()))
+        self.assertEqual(self.at_terminal("gen", "1", "-o", "-")[::2], (0, b""))
+        self.assertIn(b"usage", self.at_terminal("write")[2])
+
+    def at_terminal(self, *words):
+        """The status of a run whose output is a terminal, the beginning of what that is given, and what is said."""
+        leader, terminal = os.openpty()
+        run = stand.begun(*words, stdout=terminal)
+        os.close(terminal)
+        given = b""
+        with contextlib.suppress(OSError):
+            while more := os.read(leader, 65536):
+                given += more
+        os.close(leader)
+        said = run.communicate(timeout=stand.LONG)[1]
+        return run.returncode, given, said
 
     def test_a_page_is_edited_in_its_place(self):
         script = self.written("script", "at 1 2\ntext Größe\n".encode())

@@ -6,6 +6,7 @@ import selectors
 import shlex
 import signal
 import socket
+import struct
 import time
 
 import lines
@@ -205,6 +206,17 @@ class Guests(HostCase):
         said = "".join(run.stderr.readline().decode() for _ in range(3))
         self.assertEqual(said.count("is dropped: it asked for no page within 4 seconds"), 2, said)
         self.assertEqual(said.count("is dropped: it took nothing for 4 seconds"), 1, said)
+
+    def test_a_guest_that_leaves_while_a_page_goes_out_is_no_fault(self):
+        self.written("pages/3.btx", b"\x0c" + b"A" * 2**23)
+        run, port = self.host("--bits", "0", "--patience", "4")
+        guest, waiting = self.guest(port), self.guest(port)
+        guest.send(b"*3#")
+        self.assertTrue(guest.has(self.page("0")))
+        guest.socket.setsockopt(socket.SOL_SOCKET, socket.SO_LINGER, struct.pack("ii", 1, 0))
+        guest.close()
+        self.assertTrue(waiting.is_dropped())
+        self.assertIn("is dropped: it asked for no page within 4 seconds", run.stderr.readline().decode())
 
     def test_more_guests_than_there_may_be_are_sent_away(self):
         run, port = self.host("--bits", "0", "--guests", "2")

@@ -80,7 +80,8 @@ class Scripts(stand.Case):
             done = stand.btx("edit", self.empty(), self.written("script", f"at 1 1\ntext ö {sign}x\n".encode()))
             self.assertEqual((done.returncode, done.stdout), (3, b"script line 2: 4 BadText\n"))
             self.assertIn(f"line 2: sign 8 is {sign if sign.strip() else ''}", done.stderr.decode())
-            self.assertIn(f"(U+{ord(sign):04X} {unicodedata.name(sign)}), which no set has", done.stderr.decode())
+            name = f"U+{ord(sign):04X} {unicodedata.name(sign)}"
+            self.assertIn(f"{name if sign.isspace() else f'({name})'}, which no set has", done.stderr.decode())
 
     def test_the_page_editor_makes_the_same_lines(self):
         node, = self.needs("node")
