@@ -15,7 +15,7 @@ use Rattle.cept_codes.specs.Cell.{IsValidMarker}
 use Rattle.cept_codes.specs.declared.cell.Marker.TheVariants as markers
 use Rattle.cept_profile.specs.Attributes.{cascade}
 use Rattle.std.proofs.lemmas.Bool.{cond-false, cond-true}
-use Rattle.cept_profile.specs.Serial.{acts_at_once, row_in, is_marker}
+use Rattle.cept_profile.specs.Serial.{acts_there, row_in, is_marker}
 use Rattle.cept_profile.specs.Serial.{serial_attributes, held_sign}
 use Rattle.cept_profile.specs.Influence.{Influence, full_after, influence, influence_after}
 use Rattle.cept_profile.specs.Influence.{influence_in, held_sign_in}
@@ -210,7 +210,7 @@ marked_influence cells row screen c m s t low h e =
 
 -- what is in force in the cell of a marker, where it acts there, and where it doesn't
 pub full_at_once : (cells : List Cell) (row screen : Pen) (c : ℕ) (m : Marker) (s t : Influence) → 1 ≤ c
-    → IsMarked cells row screen (c - 1) m s → t ≡ influence_after (whats.Marker m) s → acts_at_once m ≡ true
+    → IsMarked cells row screen (c - 1) m s → t ≡ influence_after (whats.Marker m) s → acts_there (whats.Marker m) ≡ true
     → t.full ≡ serial_attributes (row_in cells) row screen c
 full_at_once cells row screen c m s t low h e acts =
     marked_full cells row screen (c - 1) m s t.full h (ap (λ (x : Influence). x.full) (e
@@ -218,7 +218,7 @@ full_at_once cells row screen c m s t low h e acts =
     ∙ ap (serial_attributes (row_in cells) row screen) (back_again c low)
 
 pub full_later : (cells : List Cell) (row screen : Pen) (c : ℕ) (left : What) (m : Marker) (s t : Influence) → 1 ≤ c
-    → IsMarked cells row screen (c - 1) m t → t ≡ influence_with_sign left s → acts_at_once m ≡ false
+    → IsMarked cells row screen (c - 1) m t → t ≡ influence_with_sign left s → acts_there (whats.Marker m) ≡ false
     → s.full ≡ serial_attributes (row_in cells) row screen c
 full_later cells row screen c left m s t low h e acts =
     marked_full cells row screen (c - 1) m t s.full h (ap (λ (x : Influence). x.full) (sym e

@@ -8,7 +8,7 @@ ghost use Rattle.cept_codes.specs.Cell.{IsValidMarker};
 ghost use Rattle.cept_profile.specs.Attributes.{cascade};
 ghost use Rattle.cept_codes.specs.declared.cell.What.TheVariants.{Marker as stands};
 ghost use Rattle.cept_profile.specs.Influence.{influence_after, influence_in, held_sign_in};
-ghost use Rattle.cept_profile.specs.Serial.{acts_at_once, held_sign, is_marker, mosaic_of, row_in};
+ghost use Rattle.cept_profile.specs.Serial.{acts_there, held_sign, is_marker, mosaic_of, row_in};
 
 use crate::attributes::cascade;
 use cept_codes::{Cell, Flash, Full, Glyph, Marker, Pen, RowCells, SetId, Size, What};
@@ -85,7 +85,7 @@ impl Influence {
         requires from_left { 1 ≤ column }
         requires to_right { column ≤ 40 }
         requires there { row_in cells.now column ≡ stands marker }
-        ensures acts { result.at_once ≡ acts_at_once marker }
+        ensures acts { result.at_once ≡ acts_there (stands marker) }
         ensures influence { LeavesAt (row_in cells.now) column self.old self.new }
         ensures at_once { result.at_once ≡ true
             → IsInForceAt (row_in cells.now) column self.old self.new.full }
@@ -189,7 +189,7 @@ fn mark(influence: &mut Influence, m: Marker, full: &mut Full, held: &mut Option
 #[inline(never)]
 fn turn(influence: &mut Influence, m: Marker, held: &mut Option<Glyph>) -> bool
     ensures influence { influence.new ≡ influence_after (stands m) influence.old }
-    ensures at_once { result ≡ acts_at_once m }
+    ensures at_once { result ≡ acts_there (stands m) }
     ensures held { held.new ≡ held_sign_in (stands m) influence.old }
 {
     let hold = influence.hold;
@@ -225,7 +225,7 @@ fn carry(influence: &mut Influence, m: Marker)
 /// Whether a marker acts in its own cell; all others act from the next.
 #[inline(always)]
 fn acts_at_once(m: Marker) -> bool
-    ensures { result ≡ acts_at_once m }
+    ensures { result ≡ acts_there (stands m) }
 {
     match m {
         Marker::Flash(flash) => matches!(flash, Flash::Steady),

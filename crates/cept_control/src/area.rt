@@ -1,6 +1,7 @@
-ghost use Rattle.std.specs.Prelude.{◌≡◌, ◌<◌, ◌++◌, ◌∷◌, [], Some, length};
+ghost use Rattle.std.specs.Prelude.{◌≡◌, ℕ, ◌<◌, ◌==◌, ◌&&◌, ◌++◌, ◌∷◌, [], Some, None, length};
+ghost use Rattle.std.specs.Prelude.{if◌then◌else◌, option_and_then};
 ghost use Rattle.cept_codes.specs.Command.{IsArea};
-ghost use Rattle.cept_profile.specs.Control.{area_without, control_effect};
+ghost use Rattle.cept_profile.specs.Control.{effect};
 ghost use Rattle.cept_profile.specs.Motions.{area_in_force, is_first_of, is_last_of};
 ghost use Rattle.cept_profile.specs.Motions.{scrolling_area, strokes_of_scroll};
 
@@ -11,7 +12,7 @@ use cept_codes::{Command, Stroke, Up};
 /// The scrolling area, and whether motions scroll it.
 impl Control {
     pub(crate) fn implicit_scrolling(&mut self, on: bool)
-        ensures { self.new ≡ control_effect self.old (Command.Implicit on) }
+        ensures { self.new ≡ (effect self.old (Command.Implicit on)).0 }
     {
         self.implicit = on;
     }
@@ -20,7 +21,7 @@ impl Control {
     #[inline(never)]
     pub(crate) fn create_area(&mut self, first: u8, last: u8)
         requires { IsArea first last }
-        ensures { self.new ≡ control_effect self.old (Command.AreaCreate first last) }
+        ensures { self.new ≡ (effect self.old (Command.AreaCreate first last)).0 }
     {
         self.area = Some((first, last));
     }
@@ -28,7 +29,7 @@ impl Control {
     /// The area with these rows alone is deleted.
     #[inline(never)]
     pub(crate) fn delete_area(&mut self, first: u8, last: u8)
-        ensures { self.new ≡ control_effect self.old (Command.AreaDelete first last) }
+        ensures { self.new ≡ (effect self.old (Command.AreaDelete first last)).0 }
     {
         self.area = area_without(first, last, self.area);
     }
@@ -83,7 +84,8 @@ impl Control {
 
 /// The area, unless it has these rows.
 fn area_without(first: u8, last: u8, area: Option<(u8, u8)>) -> Option<(u8, u8)>
-    ensures { result ≡ area_without first last area }
+    ensures { result ≡ option_and_then
+        (λ (a : ℕ × ℕ). if a.0 == first && a.1 == last then None else Some a) area }
 {
     let (top, bottom) = area?;
     if top == first && bottom == last {

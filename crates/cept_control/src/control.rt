@@ -3,9 +3,9 @@ ghost use Rattle.std.specs.List.{AllByRecursion};
 ghost use Rattle.cept_codes.specs.Command.{IsValidCommand};
 ghost use Rattle.cept_codes.specs.Stroke.{IsValidStroke};
 ghost use Rattle.cept_control.specs.inside.Taking.{CanTake};
-ghost use Rattle.cept_profile.specs.Control.{control_after, initial_control, control_effect};
+ghost use Rattle.cept_profile.specs.Control.{control_after, effect, initial_control};
 ghost use Rattle.cept_profile.specs.Control.{state_for_effect};
-ghost use Rattle.cept_profile.specs.Strokes.{strokes_of, strokes_when};
+ghost use Rattle.cept_profile.specs.Strokes.{strokes_of};
 ghost use Rattle.cept_profile.specs.Valid.{IsValidControl};
 
 use crate::working::Working;
@@ -203,8 +203,8 @@ impl Control {
     #[inline(always)]
     fn take_effect(&mut self, command: &Command, strokes: &mut ArrayVec<Stroke, 128>)
         requires { CanTake command.now strokes.old.items }
-        ensures state { self.new ≡ control_effect self.old command.now }
-        ensures strokes { strokes.new.items ≡ strokes_when self.old command.now }
+        ensures state { self.new ≡ (effect self.old command.now).0 }
+        ensures strokes { strokes.new.items ≡ (effect self.old command.now).1 }
     {
         match command {
             Command::Back => self.back(strokes),

@@ -3,18 +3,16 @@ ghost use Rattle.std.specs.Prelude.{unwrap_or};
 ghost use Rattle.std.specs.Option.{is_some};
 ghost use Rattle.cept_codes.specs.Command.{IsGraphic, IsValidCommand};
 ghost use Rattle.cept_codes.specs.Glyph.{IsValidGlyph};
-ghost use Rattle.cept_control.specs.SignWithin.{is_sign_within};
+ghost use Rattle.cept_control.specs.SignWithin.{is_sign_within, put_alone};
 ghost use Rattle.cept_control.specs.inside.Taking.{CanTake};
-ghost use Rattle.cept_profile.specs.Control.{control_after, control_effect, control_with};
+ghost use Rattle.cept_profile.specs.Control.{control_after, control_with, effect};
 ghost use Rattle.cept_profile.specs.Edges.{edges_of};
 ghost use Rattle.cept_profile.specs.Sets.{IsAccent, IsValidRead};
-ghost use Rattle.cept_profile.specs.Strokes.{strokes_of, strokes_when};
+ghost use Rattle.cept_profile.specs.Strokes.{strokes_of};
 ghost use Rattle.cept_profile.specs.Tiling.{columns_of_size};
-ghost use Rattle.cept_profile.specs.Writing.{sign_with_accent, control_after_copies, cell_of};
-ghost use Rattle.cept_profile.specs.Writing.{columns_of_sign, strokes_of_copies};
-ghost use Rattle.cept_profile.specs.Writing.{graphic_read};
-ghost use Rattle.cept_profile.specs.Writing.{control_after_shift, strokes_of_sign};
-ghost use Rattle.cept_profile.specs.Writing.{working_after_sign};
+ghost use Rattle.cept_profile.specs.Writing.{columns_under, content, control_after_shift};
+ghost use Rattle.cept_profile.specs.Writing.{effect_of_copies, effect_of_sign, graphic_read};
+ghost use Rattle.cept_profile.specs.Writing.{sign_with_accent};
 
 use crate::control::Control;
 use arrayvec::ArrayVec;
@@ -35,8 +33,7 @@ impl Control {
     pub fn step_sign(&mut self, command: &Command) -> Option<PutCell>
         requires { IsValidCommand command.now }
         ensures state { IfSome result (λ put. self.new ≡ control_after self.old command.now) }
-        ensures strokes { IfSome result (λ put. strokes_of self.old command.now
-            ≡ Stroke.Put put.place put.cell ∷ []) }
+        ensures strokes { IfSome result (λ put. strokes_of self.old command.now ≡ put_alone put) }
         ensures edges { edges_of self.new ≡ edges_of self.old }
         ensures left { result ≡ None → self.new ≡ self.old }
         ensures answer { is_some result ≡ is_sign_within self.old command.now }
@@ -65,15 +62,15 @@ impl Control {
     }
 
     pub(crate) fn protection(&mut self, on: bool)
-        ensures { self.new ≡ control_effect self.old (Command.Protect on) }
+        ensures { self.new ≡ (effect self.old (Command.Protect on)).0 }
     {
         self.working.protect = on;
     }
 
     pub(crate) fn graphic(&mut self, byte: u8, strokes: &mut ArrayVec<Stroke, 128>)
         requires { CanTake (Command.Graphic byte) strokes.old.items }
-        ensures state { self.new ≡ control_effect self.old (Command.Graphic byte) }
-        ensures strokes { strokes.new.items ≡ strokes_when self.old (Command.Graphic byte) }
+        ensures state { self.new ≡ (effect self.old (Command.Graphic byte)).0 }
+        ensures strokes { strokes.new.items ≡ (effect self.old (Command.Graphic byte)).1 }
     {
         match self.take(byte) {
             Read::Accent(code) => self.working.accent = Some(code),
@@ -86,8 +83,8 @@ impl Control {
 
     pub(crate) fn repeat_last(&mut self, count: u8, strokes: &mut ArrayVec<Stroke, 128>)
         requires { CanTake (Command.Repeat count) strokes.old.items }
-        ensures state { self.new ≡ control_effect self.old (Command.Repeat count) }
-        ensures strokes { strokes.new.items ≡ strokes_when self.old (Command.Repeat count) }
+        ensures state { self.new ≡ (effect self.old (Command.Repeat count)).0 }
+        ensures strokes { strokes.new.items ≡ (effect self.old (Command.Repeat count)).1 }
     {
         if let Some(sign) = self.working.last {
             self.write_copies(sign, count, strokes);
@@ -97,8 +94,8 @@ impl Control {
     fn write_copies(&mut self, sign: Glyph, count: u8, strokes: &mut ArrayVec<Stroke, 128>)
         requires copies { CanTake (Command.Repeat count) strokes.old.items }
         requires valid { IsValidGlyph sign }
-        ensures state { self.new ≡ control_after_copies count self.old sign }
-        ensures strokes { strokes.new.items ≡ strokes_of_copies count self.old sign }
+        ensures state { self.new ≡ control_with self.old (effect_of_copies count self.old sign).0 }
+        ensures strokes { strokes.new.items ≡ (effect_of_copies count self.old sign).1 }
     {
         for _copy in 0..count {
             self.write(sign, strokes);
@@ -120,8 +117,8 @@ impl Control {
     fn write(&mut self, sign: Glyph, strokes: &mut ArrayVec<Stroke, 128>)
         requires valid { IsValidGlyph sign }
         requires room { length strokes.old.items + 2 ≤ 128 }
-        ensures state { self.new ≡ control_with self.old (working_after_sign self.old sign) }
-        ensures strokes { strokes.new.items ≡ strokes.old.items ++ strokes_of_sign self.old sign }
+        ensures state { self.new ≡ control_with self.old (effect_of_sign self.old sign).0 }
+        ensures strokes { strokes.new.items ≡ strokes.old.items ++ (effect_of_sign self.old sign).1 }
     {
         let columns = self.columns_of_sign();
         let cell = self.cell_of(sign);
@@ -133,7 +130,7 @@ impl Control {
 
     /// How many columns a sign moves on.
     fn columns_of_sign(&self) -> u8
-        ensures columns { result ≡ columns_of_sign self.now }
+        ensures columns { result ≡ columns_under self.now.working.c1 self.now.working }
         ensures few { result ≤ 2 }
     {
         match self.working.c1 {
@@ -144,7 +141,10 @@ impl Control {
 
     /// The cell that a sign makes.
     fn cell_of(&self, sign: Glyph) -> Cell
-        ensures { result ≡ cell_of self.now sign }
+        ensures { result ≡ record {
+          what = content self.now.working.c1 sign self.now.working.pen;
+          protected = self.now.working.protect;
+        } }
     {
         let what = match self.working.c1 {
             C1Set::Parallel => What::Parallel(sign, self.working.pen),

@@ -1,11 +1,8 @@
-ghost use Rattle.std.specs.Prelude.{◌≡◌, ◌≤◌, ◌<◌, ◌++◌, length};
+ghost use Rattle.std.specs.Prelude.{◌≡◌, ◌+◌, ◌-◌, ◌≤◌, ◌<◌, ◌==◌, ◌++◌, false, if◌then◌else◌, length};
 ghost use Rattle.cept_codes.specs.Place.{OnScreen};
 ghost use Rattle.cept_control.specs.inside.Taking.{CanTake};
-ghost use Rattle.cept_profile.specs.Control.{working_at, control_effect, working_without_pen};
-ghost use Rattle.cept_profile.specs.Control.{working_without_run, control_with};
-ghost use Rattle.cept_profile.specs.Motions.{working_ahead, row_above, row_below};
-ghost use Rattle.cept_profile.specs.Motions.{above_strokes, below_strokes, on_strokes};
-ghost use Rattle.cept_profile.specs.Strokes.{strokes_when};
+ghost use Rattle.cept_profile.specs.Control.{control_with, effect, working_afresh, working_at};
+ghost use Rattle.cept_profile.specs.Motions.{above, ahead, below};
 
 use crate::area::{is_first_of, is_last_of};
 use crate::control::Control;
@@ -17,8 +14,8 @@ impl Control {
     /// One column back, before the first one into the row above.
     pub(crate) fn back(&mut self, strokes: &mut ArrayVec<Stroke, 128>)
         requires { CanTake Command.Back strokes.old.items }
-        ensures state { self.new ≡ control_effect self.old Command.Back }
-        ensures strokes { strokes.new.items ≡ strokes_when self.old Command.Back }
+        ensures state { self.new ≡ (effect self.old Command.Back).0 }
+        ensures strokes { strokes.new.items ≡ (effect self.old Command.Back).1 }
     {
         if self.working.column > 1 {
             self.move_to(self.working.row, self.working.column - 1);
@@ -30,8 +27,8 @@ impl Control {
 
     pub(crate) fn forward(&mut self, strokes: &mut ArrayVec<Stroke, 128>)
         requires { CanTake Command.Forward strokes.old.items }
-        ensures state { self.new ≡ control_effect self.old Command.Forward }
-        ensures strokes { strokes.new.items ≡ strokes_when self.old Command.Forward }
+        ensures state { self.new ≡ (effect self.old Command.Forward).0 }
+        ensures strokes { strokes.new.items ≡ (effect self.old Command.Forward).1 }
     {
         self.move_on(1, strokes);
         self.end_run();
@@ -39,8 +36,8 @@ impl Control {
 
     pub(crate) fn down(&mut self, strokes: &mut ArrayVec<Stroke, 128>)
         requires { CanTake Command.Down strokes.old.items }
-        ensures state { self.new ≡ control_effect self.old Command.Down }
-        ensures strokes { strokes.new.items ≡ strokes_when self.old Command.Down }
+        ensures state { self.new ≡ (effect self.old Command.Down).0 }
+        ensures strokes { strokes.new.items ≡ (effect self.old Command.Down).1 }
     {
         self.go_below(self.working.column, strokes);
         self.end_run();
@@ -48,22 +45,22 @@ impl Control {
 
     pub(crate) fn up(&mut self, strokes: &mut ArrayVec<Stroke, 128>)
         requires { CanTake Command.Up strokes.old.items }
-        ensures state { self.new ≡ control_effect self.old Command.Up }
-        ensures strokes { strokes.new.items ≡ strokes_when self.old Command.Up }
+        ensures state { self.new ≡ (effect self.old Command.Up).0 }
+        ensures strokes { strokes.new.items ≡ (effect self.old Command.Up).1 }
     {
         self.go_above(self.working.column, strokes);
         self.end_run();
     }
 
     pub(crate) fn to_first_column(&mut self)
-        ensures { self.new ≡ control_effect self.old Command.Return }
+        ensures { self.new ≡ (effect self.old Command.Return).0 }
     {
         self.move_to(self.working.row, 1);
         self.end_run();
     }
 
     pub(crate) fn home(&mut self)
-        ensures { self.new ≡ control_effect self.old Command.Home }
+        ensures { self.new ≡ (effect self.old Command.Home).0 }
     {
         // A field that is read opens the model, so that what it promises is known.
         let _rows = self.rows;
@@ -72,8 +69,8 @@ impl Control {
 
     pub(crate) fn clear(&mut self, strokes: &mut ArrayVec<Stroke, 128>)
         requires { CanTake Command.Clear strokes.old.items }
-        ensures state { self.new ≡ control_effect self.old Command.Clear }
-        ensures strokes { strokes.new.items ≡ strokes_when self.old Command.Clear }
+        ensures state { self.new ≡ (effect self.old Command.Clear).0 }
+        ensures strokes { strokes.new.items ≡ (effect self.old Command.Clear).1 }
     {
         strokes.push(Stroke::Wipe);
         self.home();
@@ -81,7 +78,7 @@ impl Control {
 
     pub(crate) fn to_position(&mut self, row: u8, column: u8)
         requires { OnScreen row column }
-        ensures { self.new ≡ control_effect self.old (Command.Position row column) }
+        ensures { self.new ≡ (effect self.old (Command.Position row column)).0 }
     {
         self.start_at(row.min(self.rows), column);
     }
@@ -90,9 +87,8 @@ impl Control {
     pub(crate) fn move_on(&mut self, columns: u8, strokes: &mut ArrayVec<Stroke, 128>)
         requires columns { columns ≤ 2 }
         requires room { length strokes.old.items < 128 }
-        ensures state { self.new
-            ≡ control_with self.old (working_ahead self.old columns self.old.working) }
-        ensures strokes { strokes.new.items ≡ strokes.old.items ++ on_strokes self.old columns }
+        ensures state { self.new ≡ control_with self.old (ahead self.old columns).0 }
+        ensures strokes { strokes.new.items ≡ strokes.old.items ++ (ahead self.old columns).1 }
     {
         let column = self.working.column + columns;
         if column > 40 && self.wrap {
@@ -106,43 +102,39 @@ impl Control {
     fn go_below(&mut self, column: u8, strokes: &mut ArrayVec<Stroke, 128>)
         requires column { (1 ≤ column) × (column ≤ 40) }
         requires room { length strokes.old.items < 128 }
-        ensures state { self.new
-            ≡ control_with self.old
-            (working_at (row_below self.old self.old.working.row) column self.old.working) }
-        ensures strokes { strokes.new.items
-            ≡ strokes.old.items ++ below_strokes self.old self.old.working.row }
+        ensures state { self.new ≡ control_with self.old (below self.old column).0 }
+        ensures strokes { strokes.new.items ≡ strokes.old.items ++ (below self.old column).1 }
     {
         let area = self.scrolling_area();
         if is_last_of(area, self.working.row) {
             self.scroll_area(Up::Up, area, strokes);
+            self.move_to(self.working.row, column);
+        } else {
+            self.move_to(self.row_below(), column);
         }
-        self.move_to(self.row_below(), column);
     }
 
     /// Into the row above. At the first row of an area that scrolls its rows go down instead.
     fn go_above(&mut self, column: u8, strokes: &mut ArrayVec<Stroke, 128>)
         requires column { (1 ≤ column) × (column ≤ 40) }
         requires room { length strokes.old.items < 128 }
-        ensures state { self.new
-            ≡ control_with self.old
-            (working_at (row_above self.old self.old.working.row) column self.old.working) }
-        ensures strokes { strokes.new.items
-            ≡ strokes.old.items ++ above_strokes self.old self.old.working.row }
+        ensures state { self.new ≡ control_with self.old (above self.old column).0 }
+        ensures strokes { strokes.new.items ≡ strokes.old.items ++ (above self.old column).1 }
     {
         let area = self.scrolling_area();
         if is_first_of(area, self.working.row) {
             self.scroll_area(Up::Down, area, strokes);
+            self.move_to(self.working.row, column);
+        } else {
+            self.move_to(self.row_above(), column);
         }
-        self.move_to(self.row_above(), column);
     }
 
     /// At another position, with no run and no attribute set.
     fn start_at(&mut self, row: u8, column: u8)
         requires on_screen { OnScreen row column }
         requires within { row ≤ self.old.rows }
-        ensures { self.new
-            ≡ control_with self.old
-            (working_without_pen (working_without_run (working_at row column self.old.working))) }
+        ensures { self.new ≡ control_with self.old (working_afresh row column self.old.working) }
     {
         self.move_to(row, column);
         self.end_run();
@@ -160,21 +152,21 @@ impl Control {
     }
 
     pub(crate) fn end_run(&mut self)
-        ensures { self.new ≡ control_with self.old (working_without_run self.old.working) }
+        ensures { self.new
+            ≡ control_with self.old (record self.old.working { run = false; step = 1 }) }
     {
         self.working.run = false;
         self.working.step = 1;
     }
 
-    /// The row below the active one. The last row of an area that scrolls isn't left.
+    /// The row below the active one, where no area scrolls.
     fn row_below(&self) -> u8
-        ensures row { result ≡ row_below self.now self.now.working.row }
+        ensures row { result ≡ (if self.now.working.row == self.now.rows then
+            (if self.now.wrap then 1 else self.now.working.row) else self.now.working.row + 1) }
         ensures from_top { 1 ≤ result }
         ensures within { result ≤ self.now.rows }
     {
-        if is_last_of(self.scrolling_area(), self.working.row) {
-            self.working.row
-        } else if self.working.row < self.rows {
+        if self.working.row < self.rows {
             self.working.row + 1
         } else if self.wrap {
             1
@@ -183,15 +175,15 @@ impl Control {
         }
     }
 
-    /// The row above the active one. The first row of an area that scrolls isn't left.
+    /// The row above the active one, where no area scrolls.
     fn row_above(&self) -> u8
-        ensures row { result ≡ row_above self.now self.now.working.row }
+        ensures row { result ≡ (if self.now.working.row == 1 then
+            (if self.now.wrap then self.now.rows else self.now.working.row)
+            else self.now.working.row - 1) }
         ensures from_top { 1 ≤ result }
         ensures within { result ≤ self.now.rows }
     {
-        if is_first_of(self.scrolling_area(), self.working.row) {
-            self.working.row
-        } else if self.working.row > 1 {
+        if self.working.row > 1 {
             self.working.row - 1
         } else if self.wrap {
             self.rows

@@ -1,17 +1,15 @@
-ghost use Rattle.std.specs.Prelude.{◌≡◌, ◌≤◌, [], true, false, IfSome};
+ghost use Rattle.std.specs.Prelude.{◌≡◌, ◌≤◌, ◌==◌, ◌||◌, if◌then◌else◌, [], true, false, IfSome};
 ghost use Rattle.cept_codes.specs.Attribute.{IsValidAttr, IsValidPen};
+ghost use Rattle.cept_codes.specs.Cell.{IsValidMarker};
 ghost use Rattle.cept_codes.specs.Command.{IsC1, IsValidCommand};
 ghost use Rattle.cept_control.specs.AttributeCode.{is_attribute_code};
 ghost use Rattle.cept_control.specs.inside.Taking.{CanTake};
-ghost use Rattle.cept_profile.specs.Control.{control_after, control_effect};
+ghost use Rattle.cept_profile.specs.Control.{control_after, effect};
 ghost use Rattle.cept_profile.specs.Edges.{edges_of};
-ghost use Rattle.cept_profile.specs.Strokes.{strokes_of, strokes_when};
-ghost use Rattle.cept_profile.specs.Pens.{attribute_of, fast_after, fast_after_code};
-ghost use Rattle.cept_profile.specs.Pens.{fast_flash, flash_of};
-ghost use Rattle.cept_profile.specs.Pens.{pen_with, pen_with_any};
+ghost use Rattle.cept_profile.specs.Pens.{c1_function, fast_after, flash_of, pen_with};
+ghost use Rattle.cept_profile.specs.Strokes.{strokes_of};
 
 use crate::control::Control;
-use crate::marker::marker_of;
 use arrayvec::ArrayVec;
 use cept_codes::{Attr, C1Set, Command, Flash, Marker, Pen, Size, Stroke};
 
@@ -40,14 +38,14 @@ impl Control {
 
     pub(crate) fn c1_code(&mut self, n: u8, strokes: &mut ArrayVec<Stroke, 128>)
         requires { CanTake (Command.C1 n) strokes.old.items }
-        ensures state { self.new ≡ control_effect self.old (Command.C1 n) }
-        ensures strokes { strokes.new.items ≡ strokes_when self.old (Command.C1 n) }
+        ensures state { self.new ≡ (effect self.old (Command.C1 n)).0 }
+        ensures strokes { strokes.new.items ≡ (effect self.old (Command.C1 n)).1 }
     {
         match self.working.c1 {
             C1Set::Parallel => self.attribute_code(n),
             C1Set::Serial => {
                 let fast = fast_after_code(n, self.working.fast);
-                if let Some(marker) = marker_of(self.working.table, n) {
+                if let Some((_, marker)) = c1_function(self.working.table, n) {
                     self.leave(marker, strokes);
                 }
                 self.working.fast = fast;
@@ -59,18 +57,19 @@ impl Control {
     fn attribute_code(&mut self, n: u8)
         requires code { IsC1 n }
         requires parallel { self.old.working.c1 ≡ C1Set.Parallel }
-        ensures state { self.new ≡ control_effect self.old (Command.C1 n) }
-        ensures strokes { strokes_when self.old (Command.C1 n) ≡ [] }
+        ensures state { self.new ≡ (effect self.old (Command.C1 n)).0 }
+        ensures strokes { (effect self.old (Command.C1 n)).1 ≡ [] }
     {
-        let attribute = attribute_of(self.working.table, n);
-        set_any(attribute, &mut self.working.pen);
+        if let Some((attribute, _)) = c1_function(self.working.table, n) {
+            set(attribute, &mut self.working.pen);
+        }
         self.working.fast = fast_after_code(n, self.working.fast);
     }
 
     pub(crate) fn flash_mode(&mut self, mode: u8, strokes: &mut ArrayVec<Stroke, 128>)
         requires { CanTake (Command.FlashMode mode) strokes.old.items }
-        ensures state { self.new ≡ control_effect self.old (Command.FlashMode mode) }
-        ensures strokes { strokes.new.items ≡ strokes_when self.old (Command.FlashMode mode) }
+        ensures state { self.new ≡ (effect self.old (Command.FlashMode mode)).0 }
+        ensures strokes { strokes.new.items ≡ (effect self.old (Command.FlashMode mode)).1 }
     {
         match self.working.c1 {
             C1Set::Parallel => {
@@ -88,8 +87,8 @@ impl Control {
 
     pub(crate) fn stop_conceal(&mut self, strokes: &mut ArrayVec<Stroke, 128>)
         requires { CanTake Command.StopConceal strokes.old.items }
-        ensures state { self.new ≡ control_effect self.old Command.StopConceal }
-        ensures strokes { strokes.new.items ≡ strokes_when self.old Command.StopConceal }
+        ensures state { self.new ≡ (effect self.old Command.StopConceal).0 }
+        ensures strokes { strokes.new.items ≡ (effect self.old Command.StopConceal).1 }
     {
         match self.working.c1 {
             C1Set::Parallel => set(Attr::Conceal(false), &mut self.working.pen),
@@ -100,49 +99,42 @@ impl Control {
 
 /// The fast flash in force after a C1 code: the codes of flash end it.
 fn fast_after_code(n: u8, fast: u8) -> u8
-    ensures { result ≡ fast_after_code n fast }
+    ensures { result ≡ (if n == 8 || n == 9 then 0 else fast) }
 {
     if n == 8 || n == 9 { 0 } else { fast }
 }
 
-/// The attribute of a C1 code with a colour table.
-pub(crate) fn attribute_of(table: u8, n: u8) -> Option<Attr>
+/// What a C1 code is with a colour table: an attribute under the parallel set, and under the serial
+/// set a marker.
+pub(crate) fn c1_function(table: u8, n: u8) -> Option<(Attr, Marker)>
     requires table { table ≤ 3 }
     requires code { IsC1 n }
-    ensures attribute { result ≡ attribute_of table n }
-    ensures valid { IfSome result IsValidAttr }
+    ensures function { result ≡ c1_function table n }
+    ensures attribute { IfSome result (λ function. IsValidAttr function.0) }
+    ensures marker { IfSome result (λ function. IsValidMarker function.1) }
 {
     match n {
-        0..=7 => Some(Attr::Fore(8 * table + n)),
-        8 => Some(Attr::Flash(Flash::Plain)),
-        9 => Some(Attr::Flash(Flash::Steady)),
-        10 => Some(Attr::Boxed(false)),
-        11 => Some(Attr::Boxed(true)),
-        12 => Some(Attr::Size(Size::Normal)),
-        13 => Some(Attr::Size(Size::High)),
-        14 => Some(Attr::Size(Size::Wide)),
-        15 => Some(Attr::Size(Size::Both)),
-        16..=23 => Some(Attr::Back(8 * table + (n - 16))),
-        24 => Some(Attr::Conceal(true)),
-        25 => Some(Attr::Lined(false)),
-        26 => Some(Attr::Lined(true)),
-        28 => Some(Attr::Invert(false)),
-        29 => Some(Attr::Invert(true)),
-        30 => Some(Attr::NoBack),
-        31 => Some(Attr::Conceal(false)),
+        0..=7 => Some((Attr::Fore(8 * table + n), Marker::Alpha(8 * table + n))),
+        8 => Some((Attr::Flash(Flash::Plain), Marker::Flash(Flash::Plain))),
+        9 => Some((Attr::Flash(Flash::Steady), Marker::Flash(Flash::Steady))),
+        10 => Some((Attr::Boxed(false), Marker::Boxed(false))),
+        11 => Some((Attr::Boxed(true), Marker::Boxed(true))),
+        12 => Some((Attr::Size(Size::Normal), Marker::Size(Size::Normal))),
+        13 => Some((Attr::Size(Size::High), Marker::Size(Size::High))),
+        14 => Some((Attr::Size(Size::Wide), Marker::Size(Size::Wide))),
+        15 => Some((Attr::Size(Size::Both), Marker::Size(Size::Both))),
+        16..=23 => Some((
+            Attr::Back(8 * table + (n - 16)),
+            Marker::Mosaic(8 * table + (n - 16)),
+        )),
+        24 => Some((Attr::Conceal(true), Marker::Conceal(true))),
+        25 => Some((Attr::Lined(false), Marker::Lined(false))),
+        26 => Some((Attr::Lined(true), Marker::Lined(true))),
+        28 => Some((Attr::Invert(false), Marker::BlackBack)),
+        29 => Some((Attr::Invert(true), Marker::NewBack)),
+        30 => Some((Attr::NoBack, Marker::Hold)),
+        31 => Some((Attr::Conceal(false), Marker::Release)),
         _ => None,
-    }
-}
-
-/// Sets an attribute of a pen, if there is one.
-fn set_any(attribute: Option<Attr>, pen: &mut Pen)
-    requires pen { IsValidPen pen.old }
-    requires attribute { IfSome attribute IsValidAttr }
-    ensures pen { pen.new ≡ pen_with_any attribute pen.old }
-    ensures valid { IsValidPen pen.new }
-{
-    if let Some(attribute) = attribute {
-        set(attribute, pen);
     }
 }
 
@@ -174,18 +166,11 @@ fn flash_of(mode: u8, fast: u8) -> Flash
     match mode {
         0 => Flash::Inverted,
         1 => Flash::Reduced,
-        _ => fast_flash(fast_after(mode, fast)),
-    }
-}
-
-/// The fast flash of this number.
-fn fast_flash(number: u8) -> Flash
-    ensures { result ≡ fast_flash number }
-{
-    match number {
-        1 => Flash::Fast1,
-        2 => Flash::Fast2,
-        _ => Flash::Fast3,
+        _ => match fast_after(mode, fast) {
+            1 => Flash::Fast1,
+            2 => Flash::Fast2,
+            _ => Flash::Fast3,
+        },
     }
 }
 

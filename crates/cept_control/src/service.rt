@@ -1,8 +1,6 @@
 ghost use Rattle.std.specs.Prelude.{◌≡◌, ◌≤◌, ◌⊎◌};
 ghost use Rattle.cept_control.specs.inside.Taking.{CanTake};
-ghost use Rattle.cept_profile.specs.Control.{control_effect};
-ghost use Rattle.cept_profile.specs.Control.{control_with, working_by_default};
-ghost use Rattle.cept_profile.specs.Strokes.{strokes_when};
+ghost use Rattle.cept_profile.specs.Control.{control_with, effect, working_by_default};
 
 use crate::control::Control;
 use crate::working::Working;
@@ -13,8 +11,8 @@ use cept_codes::{C1Set, Command, Stroke};
 impl Control {
     pub(crate) fn format(&mut self, rows: u8, wrap: bool, strokes: &mut ArrayVec<Stroke, 128>)
         requires { CanTake (Command.Format rows wrap) strokes.old.items }
-        ensures state { self.new ≡ control_effect self.old (Command.Format rows wrap) }
-        ensures strokes { strokes.new.items ≡ strokes_when self.old (Command.Format rows wrap) }
+        ensures state { self.new ≡ (effect self.old (Command.Format rows wrap)).0 }
+        ensures strokes { strokes.new.items ≡ (effect self.old (Command.Format rows wrap)).1 }
     {
         strokes.push(Stroke::Format(rows));
         strokes.push(Stroke::Wipe);
@@ -27,7 +25,7 @@ impl Control {
     #[inline(never)]
     pub(crate) fn choose_revision(&mut self, revision: u8)
         requires { (revision ≡ 1) ⊎ (revision ≡ 2) }
-        ensures { self.new ≡ control_effect self.old (Command.Revision revision) }
+        ensures { self.new ≡ (effect self.old (Command.Revision revision)).0 }
     {
         self.revision = revision;
     }
@@ -47,8 +45,8 @@ impl Control {
     /// Defaults of all: control and page are as at the start, under a C1 set.
     pub(crate) fn full_defaults(&mut self, set: C1Set, strokes: &mut ArrayVec<Stroke, 128>)
         requires { CanTake (Command.FullDefaults set) strokes.old.items }
-        ensures state { self.new ≡ control_effect self.old (Command.FullDefaults set) }
-        ensures strokes { strokes.new.items ≡ strokes_when self.old (Command.FullDefaults set) }
+        ensures state { self.new ≡ (effect self.old (Command.FullDefaults set)).0 }
+        ensures strokes { strokes.new.items ≡ (effect self.old (Command.FullDefaults set)).1 }
     {
         strokes.push(Stroke::Format(24));
         strokes.push(Stroke::Wipe);
@@ -62,7 +60,7 @@ impl Control {
     /// A service breaks in at a row: what was before the first break is kept until its end.
     pub(crate) fn service_break(&mut self, row: u8)
         requires row { (1 ≤ row) × (row ≤ 24) }
-        ensures { self.new ≡ control_effect self.old (Command.ServiceBreak row) }
+        ensures { self.new ≡ (effect self.old (Command.ServiceBreak row)).0 }
     {
         if self.kept.is_none() {
             self.kept = Some(self.working);
@@ -73,7 +71,7 @@ impl Control {
 
     /// A service ends: what was before it comes back.
     pub(crate) fn service_end(&mut self)
-        ensures { self.new ≡ control_effect self.old Command.ServiceEnd }
+        ensures { self.new ≡ (effect self.old Command.ServiceEnd).0 }
     {
         if let Some(kept) = self.kept {
             self.working = Working {

@@ -1,5 +1,5 @@
 -- The bytes of a pattern read one by one, beside their blocks.
-use Rattle.std.proofs.Common.{◌≡◌, ℕ, ◌+◌, ◌-◌, ◌*◌, ◌<◌, ◌≤◌, Bool, true, false, ◌&&◌, List, [], ◌∷◌, ◌++◌}
+use Rattle.std.proofs.Common.{◌≡◌, ℕ, ◌+◌, ◌-◌, ◌*◌, ◌<◌, ◌≤◌, Bool, true, false, ◌&&◌, ◌||◌, List, [], ◌∷◌, ◌++◌}
 use Rattle.std.proofs.Common.{inl, inr, length, replicate, ◌==◌, nat_le, nat_lt, Option, Some, None, refl, sym, ap}
 use Rattle.std.proofs.Common.{◌∙◌, le_refl, zero-mul, arith}
 use Rattle.std.proofs.lemmas.Bool.{cases_Bool, and_parts, ltb-true, eqb-true}
@@ -8,13 +8,17 @@ use Rattle.std.proofs.lemmas.Nat.{row_fits}
 use Rattle.std.proofs.Math.Bool.{and_assoc}
 use Rattle.std.proofs.lemmas.List.{length-append, length-replicate, append_assoc, append-nil, drop_at}
 use Rattle.cept_codes.specs.declared.command.Form.{Form}
-use Rattle.cept_drcs.specs.Block.{BlockPart, blank, adds, may_come, part_after_byte, all_may_come, last_line}
-use Rattle.cept_drcs.specs.Cut.{Cut, is_opener, plane_of, cut}
+use Rattle.cept_drcs.specs.Block.{BlockPart, blank, all_may_come}
+use Rattle.cept_drcs.specs.Block.{has_pixels}
+use Rattle.cept_drcs.specs.Adding.{is_sign, adds, may_come, part_after_byte, last_line}
+use Rattle.cept_drcs.specs.Cut.{is_opener, blocks}
+use Rattle.cept_drcs.proofs.Cuts.{Cut, cut, cut_opener, cut_other}
+use Rattle.cept_drcs.specs.Loading.{plane_of}
 use Rattle.cept_drcs.specs.Unit.{are_blocks, is_pattern}
 use Rattle.cept_drcs.specs.Loading.{Loading, fresh, takes, loading_after, loads, closed_lines, filled_lines, room, before}
 use Rattle.cept_drcs.specs.Loading.{loading_with}
 use Rattle.cept_drcs.proofs.BlockLemmas.{halves}
-use Rattle.cept_drcs.proofs.BlockLemmas.{IsWithin, blank_within, draw_within}
+use Rattle.cept_drcs.proofs.BlockLemmas.{IsWithin, blank_within, draw_within, part_is}
 
 -- the state with this plane open, these lines above it and this block drawn
 abbrev pub stand : Form → ℕ → List ℕ → BlockPart → Loading
@@ -76,7 +80,10 @@ taken_other f p up d a t e =
     ≡ adds f.w (f.h - length d.lines) (last_line d.lines) d.half a =
     ap (λ k. adds f.w k (before (stand f p up d)) d.half a) r
     ∙ ap (λ k. adds f.w (f.h - length d.lines) k d.half a) b in
-    rw t (ap (loading_with (stand f p up d)) n ∙ rw append_assoc refl)
+    let whole_block : loading_with (stand f p up d) (adds f.w (f.h - length d.lines) (last_line d.lines) d.half a)
+    ≡ stand f p up (part_after_byte f d a) =
+    rw append_assoc refl ∙ ap (stand f p up) (sym (part_is f d a)) in
+    rw t (ap (loading_with (stand f p up d)) n ∙ whole_block)
 
 pub loads_opener : (f : Form) (p : ℕ) (up : List ℕ) (d : BlockPart) (a : ℕ) (u : List ℕ) → is_opener a ≡ true
     → loads (stand f p up d) (a ∷ u)
@@ -91,16 +98,14 @@ pub loads_other : (f : Form) (p : ℕ) (up : List ℕ) (d : BlockPart) (a : ℕ)
 unfolding loads
 loads_other f p up d a u t e = rw (takes_other f p up d a t e, taken_other f p up d a t e) refl
 
-pub cut_opener : (a : ℕ) (u : List ℕ) → is_opener a ≡ true
-    → cut (a ∷ u)
-    ≡ record { front = []; blocks = record { plane = plane_of a; bytes = (cut u).front } ∷ (cut u).blocks }
-unfolding cut
-cut_opener a u t = rw t refl
+left : (n h : ℕ) → nat_lt n h ≡ nat_lt 0 (h - n)
+left n h = grind (arith, nat_tests)
 
-pub cut_other : (a : ℕ) (u : List ℕ) → is_opener a ≡ false
-    → cut (a ∷ u) ≡ record { front = a ∷ (cut u).front; blocks = (cut u).blocks }
-unfolding cut
-cut_other a u t = rw t refl
+all_may_come-more : (f : Form) (d : BlockPart) (a : ℕ) (u : List ℕ)
+    → all_may_come f d (a ∷ u) ≡ (may_come (f.h - length d.lines) a && all_may_come f (part_after_byte f d a) u)
+unfolding all_may_come
+all_may_come-more f d a u =
+    ap (λ b. b && (has_pixels a || is_sign a) && all_may_come f (part_after_byte f d a) u) (left (length d.lines) f.h)
 
 -- what the blocks of cut bytes must be, where this block is drawn so far
 abbrev pub go_on : Form → ℕ → BlockPart → Cut → Bool
@@ -116,8 +121,11 @@ go_on_opener f p d a u t =
 
 go_on_other : (f : Form) (p : ℕ) (d : BlockPart) (a : ℕ) (u : List ℕ) → is_opener a ≡ false
     → go_on f p d (cut (a ∷ u)) ≡ (may_come (f.h - length d.lines) a && go_on f p (part_after_byte f d a) (cut u))
-unfolding all_may_come
-go_on_other f p d a u t = rw (cut_other a u t) (and_assoc (may_come (f.h - length d.lines) a) _ _)
+go_on_other f p d a u t =
+    let c = cut u in
+    ap (λ (e : Cut). go_on f p d e) (cut_other a u t)
+    ∙ ap (λ b. b && are_blocks f (p + 1) c.blocks) (all_may_come-more f d a c.front)
+    ∙ and_assoc (may_come (f.h - length d.lines) a) _ _
 
 -- two tests after one that are the same where it holds
 pub and_under : (b x y : Bool) → (b ≡ true → x ≡ y) → (b && x) ≡ (b && y)
@@ -127,7 +135,7 @@ and_under false x y h = refl
 -- reading on is judging the cut bytes
 pub loads_is : (f : Form) (p : ℕ) (up : List ℕ) (d : BlockPart) (u : List ℕ) → length up ≡ p * f.h → IsWithin f d
     → loads (stand f p up d) u ≡ go_on f p d (cut u)
-unfolding loads cut all_may_come are_blocks
+unfolding loads cut blocks all_may_come are_blocks
 loads_is f p up d [] e w = refl
 loads_is f p up d (a ∷ u) e w =
     let opener : is_opener a ≡ true → loads (stand f p up d) (a ∷ u) ≡ go_on f p d (cut (a ∷ u)) =
@@ -151,7 +159,7 @@ unfolding loads takes loading_after
 loads_first f a u = refl
 
 pattern_first : (f : Form) (u : List ℕ) → nat_lt 0 f.planes ≡ true → is_pattern f (0x30 ∷ u) ≡ go_on f 0 blank (cut u)
-unfolding is_pattern cut are_blocks
+unfolding is_pattern cut blocks are_blocks
 pattern_first f u h = rw h refl
 
 pub pattern_other : (f : Form) (a : ℕ) (u : List ℕ) → (a == 0x30) ≡ false → is_pattern f (a ∷ u) ≡ false

@@ -8,12 +8,14 @@ use Rattle.std.proofs.lemmas.Nat.{mul-le}
 use Rattle.cept_codes.specs.declared.command.Form.{Form}
 use Rattle.cept_codes.specs.Command.{IsValidForm}
 use Rattle.cept_codes.specs.Look.{is_pattern_size}
-use Rattle.cept_drcs.specs.Block.{BlockPart, blank, adds, may_come, part_after_byte, part_after_bytes, last_line}
-use Rattle.cept_drcs.specs.Cut.{Block, is_opener, plane_of}
+use Rattle.cept_drcs.specs.Block.{BlockPart, blank}
+use Rattle.cept_drcs.specs.Adding.{adds, may_come, part_after_byte, part_after_bytes, last_line}
+use Rattle.cept_drcs.specs.Cut.{Block, is_opener}
+use Rattle.cept_drcs.specs.Loading.{plane_of}
 use Rattle.cept_drcs.proofs.BlockLemmas.{halves}
 use Rattle.cept_drcs.specs.Unit.{is_pattern}
 use Rattle.cept_drcs.specs.Loading.{Loading, fresh, load, loads}
-use Rattle.cept_drcs.proofs.BlockLemmas.{IsWithin, blank_within, draw_within, draw_measured}
+use Rattle.cept_drcs.proofs.BlockLemmas.{IsWithin, blank_within, draw_within, draw_measured, part_is}
 use Rattle.cept_drcs.proofs.Bridge.{stand, above_next, length-above_next, next_plane, first, loads_opener}
 use Rattle.cept_drcs.proofs.Bridge.{loads_other, loads_first}
 use Rattle.cept_drcs.proofs.Reading.{load_opener, load_other, load_first, pattern_loads, Ends, ended, no_pattern}
@@ -41,6 +43,7 @@ other_weighs f p up d a h =
     let n = length-append up d.lines in
     let k = length-append up (d.lines ++ more.lines) in
     let j = length-append d.lines more.lines in
+    let z = ap (λ (e : BlockPart). weight (stand f p up e)) (part_is f d a) in
     omega arith
 
 -- each byte weighs something

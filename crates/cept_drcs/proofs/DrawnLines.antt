@@ -14,7 +14,7 @@ use Rattle.cept_drcs.specs.Strips.{strip_of, line_of_strips, left_over, pairs, w
 use Rattle.cept_drcs.specs.inside.Strips.{strip_line}
 use Rattle.cept_drcs.specs.Strips.{half_of, strips_in}
 use Rattle.cept_drcs.specs.Kept.{IsKeptDrawing, plane_end}
-use Rattle.cept_drcs.specs.Block.{whole, last_line}
+use Rattle.cept_drcs.specs.Adding.{whole, last_line}
 use Rattle.cept_drcs.proofs.StripLemmas.{map-added, in_pairs-same, left_over-same, in_pairs-pairs}
 use Rattle.cept_drcs.proofs.StripLemmas.{left_over-pairs, length-pairs, in_pairs-at}
 use Rattle.cept_drcs.proofs.StripLemmas.{strip_none, joined_none, strip_full, joined_full}

@@ -10,8 +10,11 @@ use Rattle.std.specs.List.{list_any, range_with_len}
 use Rattle.cept_codes.specs.declared.command.Form.{Form}
 use Rattle.cept_codes.specs.Command.{IsValidForm}
 use Rattle.cept_codes.specs.Look.{is_plane_count}
-use Rattle.cept_drcs.specs.Block.{blank, may_come, part_after_bytes}
-use Rattle.cept_drcs.specs.Cut.{Block, is_opener, plane_of, cut}
+use Rattle.cept_drcs.specs.Block.{blank}
+use Rattle.cept_drcs.specs.Adding.{may_come, part_after_bytes}
+use Rattle.cept_drcs.specs.Cut.{Block, blocks, is_opener}
+use Rattle.cept_drcs.specs.Loading.{plane_of}
+use Rattle.cept_drcs.proofs.Cuts.{cut}
 use Rattle.cept_drcs.specs.Unit.{is_pattern, pattern_grows, IsLonger}
 use Rattle.cept_drcs.specs.Loading.{Loading, fresh, takes, loading_after, load, loads, is_full, Leads}
 use Rattle.cept_drcs.proofs.Bridge.{stand, takes_opener, takes_other, unit_loads}
@@ -122,7 +125,8 @@ ended_grows f a u h e =
 
 -- a pattern grows where its last block does
 pub grows_by_last : (f : Form) (u : List ℕ) (bs : List Block) (b : Block) → is_pattern f u ≡ true
-    → (cut u).blocks ≡ bs ++ b ∷ [] → pattern_grows f u ≡ block_grows f b
+    → blocks u ≡ bs ++ b ∷ [] → pattern_grows f u ≡ block_grows f b
+unfolding cut
 grows_by_last f [] bs b h e = absurd (both_ways _ (no_pattern f) h)
 grows_by_last f (a ∷ u) bs b h e =
     let k = ended f a u h in

@@ -13,11 +13,14 @@ use Rattle.std.proofs.lemmas.Bool.Decides.{nat_tests}
 use Rattle.std.proofs.lemmas.List.{length-map, length_push}
 use Rattle.cept_drcs.specs.Loading.{Loading, all_lines, room, takes, fresh, loading_with, before}
 use Rattle.cept_drcs.specs.inside.Loading.{completed_loading}
-use Rattle.cept_drcs.specs.Unit.{lines_from, pattern_of, words}
+use Rattle.cept_drcs.specs.Unit.{lines_from}
+use Rattle.cept_drcs.specs.Loading.{pattern_of}
+use Rattle.cept_drcs.specs.Strips.{words}
 use Rattle.cept_drcs.specs.Strips.{strip_of, in_pairs, left_over, whole_lines}
 use Rattle.cept_drcs.specs.Strips.{half_of, strips_in, number_of}
 use Rattle.cept_drcs.specs.Kept.{IsKeptDrawing, plane_end}
-use Rattle.cept_drcs.specs.Block.{BlockPart, has_pixels, is_sign, adds, whole}
+use Rattle.cept_drcs.specs.Block.{BlockPart, has_pixels}
+use Rattle.cept_drcs.specs.Adding.{is_sign, adds, whole}
 use Rattle.cept_drcs.specs.Cut.{is_opener}
 use Rattle.cept_drcs.proofs.StripLemmas.{pairs_length, in_pairs-completed, left_over-completed}
 use Rattle.cept_drcs.proofs.StripLemmas.{drawn_strip, adds_pixels, lines_pushed, half_pushed}

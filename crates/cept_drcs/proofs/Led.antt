@@ -6,7 +6,8 @@ use Rattle.cept_codes.specs.Look.{IsValidPattern}
 use Rattle.cept_codes.specs.declared.command.Form.{Form}
 use Rattle.cept_codes.specs.declared.look.Pattern.{Pattern}
 use Rattle.cept_drcs.specs.Loading.{Loading, Leads, IsLed, fresh, takes, loading_after, all_lines}
-use Rattle.cept_drcs.specs.Unit.{pattern_of, lines_from}
+use Rattle.cept_drcs.specs.Unit.{lines_from}
+use Rattle.cept_drcs.specs.Loading.{pattern_of}
 use Rattle.cept_drcs.proofs.Numbers.{loading_after-form}
 use Rattle.cept_drcs.proofs.Laws.{leads_none, leads_more, pattern_led, led_valid}
 

@@ -1,6 +1,7 @@
 mod BlockLemmas
 mod Bridge
 mod Counting
+mod Cuts
 mod DrawnLines
 mod Growing
 mod KeptDrawings

@@ -5,13 +5,16 @@ use Rattle.std.proofs.Common.{zero-mul, add-zero, pow-add, add-mul, one-mul, mul
 use Rattle.std.proofs.lemmas.Bool.{cases_Bool, and_parts, ltb-true, eqb-true}
 use Rattle.std.proofs.lemmas.List.{append_assoc}
 use Rattle.cept_codes.specs.declared.command.Form.{Form}
-use Rattle.cept_drcs.specs.Block.{BlockPart, blank, part_after_byte, part_after_bytes}
-use Rattle.cept_drcs.specs.Cut.{is_opener, plane_of, cut}
-use Rattle.cept_drcs.specs.Unit.{lines_from, blocks_number, pattern_of, pattern}
+use Rattle.cept_drcs.specs.Block.{BlockPart, blank}
+use Rattle.cept_drcs.specs.Adding.{part_after_byte, part_after_bytes}
+use Rattle.cept_drcs.specs.Cut.{is_opener, blocks}
+use Rattle.cept_drcs.specs.Loading.{plane_of}
+use Rattle.cept_drcs.proofs.Cuts.{cut, cut_opener, cut_other, pattern_is}
+use Rattle.cept_drcs.specs.Unit.{lines_from, blocks_number, pattern}
+use Rattle.cept_drcs.specs.Loading.{pattern_of}
 use Rattle.cept_drcs.specs.Loading.{Loading, fresh, load, loads, closed_lines, all_lines, loading_after, Leads}
 use Rattle.cept_drcs.proofs.BlockLemmas.{IsWithin, blank_within, draw_within}
 use Rattle.cept_drcs.proofs.Bridge.{stand, above_next, length-above_next, loads_opener, loads_other, loads_first}
-use Rattle.cept_drcs.proofs.Bridge.{cut_opener, cut_other}
 use Rattle.cept_drcs.proofs.Reading.{load_opener, load_other, load_first}
 
 -- ---- lines in two parts
@@ -90,17 +93,16 @@ abbrev cut_number : Form → ℕ → BlockPart → List ℕ → ℕ
 cut_number f p d u = block_number f p (part_after_bytes f d (cut u).front) + blocks_number f (cut u).blocks
 
 cut_number_none : (f : Form) (p : ℕ) (d : BlockPart) → cut_number f p d [] ≡ block_number f p d
-unfolding cut part_after_bytes blocks_number
+unfolding cut blocks blocks_number
 cut_number_none f p d = omega arith
 
 cut_number_opener : (f : Form) (p : ℕ) (d : BlockPart) (a : ℕ) (u : List ℕ) → is_opener a ≡ true
     → cut_number f p d (a ∷ u) ≡ block_number f p d + cut_number f (plane_of a) blank u
-unfolding part_after_bytes blocks_number
+unfolding blocks_number
 cut_number_opener f p d a u t = rw (cut_opener a u t) refl
 
 cut_number_other : (f : Form) (p : ℕ) (d : BlockPart) (a : ℕ) (u : List ℕ) → is_opener a ≡ false
     → cut_number f p d (a ∷ u) ≡ cut_number f p (part_after_byte f d a) u
-unfolding part_after_bytes
 cut_number_other f p d a u t = rw (cut_other a u t) refl
 
 abbrev pub number : Form → Loading → ℕ
@@ -158,7 +160,7 @@ number_led f a u h =
     subst Led (sym first_byte) (first_led f u) h
 
 none_led : (f : Form) → number f (load (fresh f) []) ≡ blocks_number f (cut []).blocks
-unfolding load lines_from blocks_number cut
+unfolding load lines_from blocks_number cut blocks
 none_led f = refl
 
 pub led : (f : Form) (u : List ℕ) → loads (fresh f) u ≡ true
@@ -188,4 +190,4 @@ pattern_led f u l k =
     let m = load (fresh f) u in
     ap (λ (x : Loading). pattern_of x.form (lines_from x.form.w 0 (all_lines x))) k.state
     ∙ ap (λ (g : Form). pattern_of g (lines_from g.w 0 (all_lines m))) (load_form (fresh f) u)
-    ∙ ap (pattern_of f) (led f u k.continue)
+    ∙ ap (pattern_of f) (led f u k.continue) ∙ sym (pattern_is f u)

@@ -15,15 +15,19 @@ use Rattle.std.proofs.lemmas.Nat.{mul-add-lt, mul-le}
 use Rattle.std.proofs.lemmas.Nat.Bits.{bit_at_cat_low, bit_at_cat_high, bit_at-zero}
 use Rattle.std.specs.Int.{bit_at}
 use Rattle.cept_codes.specs.declared.command.Form.{Form}
+use Rattle.cept_codes.specs.declared.look.Pattern.{Pattern}
 use Rattle.cept_codes.specs.Command.{IsValidForm}
 use Rattle.cept_codes.specs.Look.{pixel, is_pattern_size}
-use Rattle.cept_drcs.specs.Block.{BlockPart, blank, part_after_byte, part_after_bytes, block_lines}
-use Rattle.cept_drcs.specs.Cut.{Block, Cut, is_opener, plane_of, cut}
+use Rattle.cept_drcs.specs.Block.{BlockPart, blank, block_lines}
+use Rattle.cept_drcs.specs.Adding.{part_after_byte, part_after_bytes}
+use Rattle.cept_drcs.specs.Cut.{Block, is_opener, blocks}
+use Rattle.cept_drcs.proofs.Cuts.{Cut, cut, cut_opener, cut_other, pattern_is}
+use Rattle.cept_drcs.specs.Loading.{plane_of}
 use Rattle.cept_drcs.specs.Unit.{is_pattern, are_blocks, lines_from, blocks_number, pattern, plane_lines, drawn_pixel}
 use Rattle.cept_drcs.specs.Loading.{Loading, fresh, load, loads, closed_lines, all_lines}
 use Rattle.cept_drcs.proofs.BlockLemmas.{IsWithin, blank_within, draw_within}
 use Rattle.cept_drcs.proofs.Bridge.{stand, above_next, length-above_next, next_plane, length-closed_lines, loads_is}
-use Rattle.cept_drcs.proofs.Bridge.{first, loads_opener, loads_other, loads_first, cut_opener, cut_other}
+use Rattle.cept_drcs.proofs.Bridge.{first, loads_opener, loads_other, loads_first}
 use Rattle.cept_drcs.proofs.Reading.{load_opener, load_other, load_first, pattern_loads, no_pattern}
 use Rattle.cept_drcs.proofs.ValidPatterns.{AreLines, loaded_lines}
 use Rattle.cept_drcs.proofs.Numbers.{led, line_more}
@@ -113,7 +117,7 @@ later_line f p q y up d e w m =
 
 stand_shows : (f : Form) (p : ℕ) (up : List ℕ) (d : BlockPart) (y : ℕ) → length up ≡ p * f.h → IsWithin f d → y < f.h
     → Shows f p up d [] y
-unfolding load cut part_after_bytes plane_lines
+unfolding load cut blocks plane_lines
 stand_shows f p up d y e w l =
     let s : (n : ℕ) → slice_index (closed_lines (up ++ d.lines) d.half) n ≡ slice_index (up ++ closed d) n =
     λ n. ap (λ ls. slice_index ls n) (append_assoc up d.lines (option_to_list d.half)) in
@@ -137,7 +141,6 @@ unfolding plane_lines
 opener_lines f a q u t = rw (cut_opener a u t) refl
 
 opener_front : (f : Form) (d : BlockPart) (a : ℕ) (u : List ℕ) → is_opener a ≡ true → part_after_bytes f d (cut (a ∷ u)).front ≡ d
-unfolding part_after_bytes
 opener_front f d a u t = rw (cut_opener a u t) refl
 
 -- lines of a plane after the open one, where an opener comes
@@ -183,7 +186,6 @@ opener_shows f p up d a u y e w l t m b s =
 
 other_front : (f : Form) (d : BlockPart) (a : ℕ) (u : List ℕ) → is_opener a ≡ false
     → part_after_bytes f d (cut (a ∷ u)).front ≡ part_after_bytes f (part_after_byte f d a) (cut u).front
-unfolding part_after_bytes
 other_front f d a u t = rw (cut_other a u t) refl
 
 other_shows : (f : Form) (p : ℕ) (up : List ℕ) (d : BlockPart) (a : ℕ) (u : List ℕ) (y : ℕ) → length up ≡ p * f.h
@@ -256,12 +258,13 @@ twelve_wide w h t = grind (arith, nat_tests)
 
 unit_pixel : (f : Form) (a : ℕ) (u : List ℕ) (p y x : ℕ) → IsValidForm f → is_pattern f (a ∷ u) ≡ true → p < f.planes
     → y < f.h → x < f.w → pixel (pattern f (a ∷ u)) p y x ≡ drawn_pixel f (a ∷ u) p y x
+unfolding cut
 unit_pixel f a u p y x v h pl yl xl =
     let wide = twelve_wide f.w f.h v.size in
     let high = twelve_lines f.w f.h v.size in
     let fit = place_fits f.w f.h f.planes p y x wide high (four_planes f.planes v.planes) pl yl xl in
     let j = (p * f.h + y) * f.w + x in
-    bit_of-words 9 (blocks_number f (cut (a ∷ u)).blocks) j fit
+    ap (λ (t : Pattern). pixel t p y x) (pattern_is f (a ∷ u)) ∙ bit_of-words 9 (blocks_number f (cut (a ∷ u)).blocks) j fit
     ∙ ap (λ n. bit_at n j) (sym (led f (a ∷ u) (pattern_loads f a u h)))
     ∙ lines_bit f.w (p * f.h + y) x (all_lines (load (fresh f) (a ∷ u))) (loaded_lines f (a ∷ u) v) xl
     ∙ ap (λ n. bit_at n x) (has_line f a u p y yl h)

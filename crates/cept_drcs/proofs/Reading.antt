@@ -8,8 +8,11 @@ use Rattle.std.proofs.Math.Bool.{and_assoc}
 use Rattle.cept_codes.specs.declared.command.Form.{Form}
 use Rattle.cept_codes.specs.Command.{IsValidForm}
 use Rattle.cept_codes.specs.Look.{is_plane_count}
-use Rattle.cept_drcs.specs.Block.{BlockPart, blank, part_after_byte, part_after_bytes}
-use Rattle.cept_drcs.specs.Cut.{Block, is_opener, plane_of, cut}
+use Rattle.cept_drcs.specs.Block.{BlockPart, blank}
+use Rattle.cept_drcs.specs.Adding.{part_after_byte, part_after_bytes}
+use Rattle.cept_drcs.specs.Cut.{Block, is_opener, blocks}
+use Rattle.cept_drcs.specs.Loading.{plane_of}
+use Rattle.cept_drcs.proofs.Cuts.{cut, cut_none, cut_opener, cut_other}
 use Rattle.cept_drcs.specs.Unit.{is_pattern, are_blocks}
 use Rattle.cept_drcs.specs.Loading.{Loading, fresh, takes, loading_after, load, loads, Leads}
 use Rattle.cept_drcs.proofs.BlockLemmas.{IsWithin, blank_within, draw_within, part_after_bytes-more}
@@ -55,7 +58,7 @@ pub some_plane : (f : Form) → IsValidForm f → nat_lt 0 f.planes ≡ true
 some_plane f v = lt-ltb 0 f.planes (planes_some f.planes v.planes)
 
 first_planes : (f : Form) (u : List ℕ) → is_pattern f (0x30 ∷ u) ≡ true → nat_lt 0 f.planes ≡ true
-unfolding is_pattern cut are_blocks
+unfolding is_pattern cut blocks are_blocks
 first_planes f u h = (and_parts _ _ h).0
 
 -- a form of which there is a pattern has a plane
@@ -162,15 +165,15 @@ last_append d (c ∷ bs) b = last_append c bs b
 pub ends_behind : (f : Form) (p : ℕ) (up w u : List ℕ) → length up ≡ p * f.h → IsWithin f (part_after_bytes f blank w)
     → p < f.planes → loads (stand f p up (part_after_bytes f blank w)) u ≡ true
     → Ends f (load (stand f p up (part_after_bytes f blank w)) u) (last_block (block p (w ++ (cut u).front)) (cut u).blocks)
-unfolding load cut part_after_bytes
+unfolding load
 ends_behind f p up w [] e n l h =
-    subst (λ (v : List ℕ). Ends f (stand f p up (part_after_bytes f blank w)) (block p v)) (sym (append-nil w)) (record {
+    rw cut_none (subst (λ (v : List ℕ). Ends f (stand f p up (part_after_bytes f blank w)) (block p v)) (sym (append-nil w)) (record {
       above = up;
       long = e;
       state = refl;
       within = n;
       plane = l;
-    })
+    }))
 ends_behind f p up w (a ∷ u) e n l h =
     let d = part_after_bytes f blank w in
     let c = cut (a ∷ u) in
@@ -183,7 +186,7 @@ ends_behind f p up w (a ∷ u) e n l h =
     let long = length-above_next f p (plane_of a) up d e n q in
     let few = ltb-true (plane_of a) f.planes b.1 in
     let z = ends_behind f (plane_of a) (above_next f (plane_of a) up d) [] u long (blank_within f) few g.1 in
-    rw (taken_opener f p up d a t, t) z in
+    rw (taken_opener f p up d a t, cut_opener a u t) z in
     let other : is_opener a ≡ false → Goal =
     λ t.
     let g = and_parts _ _ (sym (loads_other f p up d a u t e) ∙ h) in
@@ -191,7 +194,7 @@ ends_behind f p up w (a ∷ u) e n l h =
     let i : IsWithin f (part_after_bytes f blank (w ++ a ∷ [])) = subst (IsWithin f) (sym m) (draw_within f d a n g.0) in
     let k : loads (stand f p up (part_after_bytes f blank (w ++ a ∷ []))) u ≡ true = ap (λ x. loads (stand f p up x) u) m ∙ g.1 in
     let z = ends_behind f p up (w ++ a ∷ []) u e i l k in
-    rw (taken_other f p up d a t e, t) (rw (m, append_assoc) at z) in
+    rw (taken_other f p up d a t e, cut_other a u t) (rw (m, append_assoc) at z) in
     elim (cases_Bool (is_opener a)) [ inl t ↦ opener t | inr t ↦ other t ]
 
 -- a pattern, the state that its bytes lead to, and its last block
@@ -202,7 +205,7 @@ pub record IsEnded (f : Form) (u : List ℕ) (l : Loading) : Type 0 where
 
 first_ended : (f : Form) (u : List ℕ) → is_pattern f (0x30 ∷ u) ≡ true
     → IsEnded f (0x30 ∷ u) (load (fresh f) (0x30 ∷ u))
-unfolding cut part_after_bytes load loading_after
+unfolding cut blocks load loading_after
 first_ended f u h =
     let some : 0 < f.planes = ltb-true 0 f.planes (pattern_planes f 0x30 u h) in
     let loaded : loads (first f) u ≡ true = sym (loads_first f 0x30 u) ∙ pattern_loads f 0x30 u h in

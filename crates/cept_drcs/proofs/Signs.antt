@@ -3,7 +3,8 @@ use Rattle.std.proofs.Common.{◌≡◌, ℕ, ◌+◌, ◌-◌, ◌≤◌, true,
 use Rattle.std.proofs.Common.{get_or, refl, sym, ap}
 use Rattle.std.proofs.Common.{◌∙◌, arith, append-nil, Option, None, Some}
 use Rattle.std.proofs.lemmas.List.{append_assoc, length_push, length-drop, get_or-drop, get_or_push}
-use Rattle.cept_drcs.specs.Block.{has_pixels, adds, whole, sign_lines, last_line}
+use Rattle.cept_drcs.specs.Block.{has_pixels, sign_lines}
+use Rattle.cept_drcs.specs.Adding.{adds, whole, last_line}
 use Rattle.cept_drcs.specs.Cut.{is_opener}
 use Rattle.cept_drcs.specs.Loading.{Loading, above, room, before, loading_after, loading_with}
 use Rattle.cept_drcs.specs.inside.Loading.{completed_loading}

@@ -7,7 +7,8 @@ use Rattle.std.proofs.lemmas.List.{map-append, append_assoc, take_more_set, leng
 use Rattle.std.proofs.lemmas.List.{get_or-set_other}
 use Rattle.std.specs.Option.{option_to_list}
 use Rattle.cept_drcs.proofs.BlockLemmas.{halves, half_line}
-use Rattle.cept_drcs.specs.Block.{BlockPart, whole, six, has_pixels, adds}
+use Rattle.cept_drcs.specs.Block.{BlockPart, six, has_pixels}
+use Rattle.cept_drcs.specs.Adding.{whole, adds}
 use Rattle.cept_drcs.specs.Strips.{strip_of, line_of_strips, in_pairs, left_over, pairs, AreKeptStrips}
 
 pub strip_is : (a : ℕ) → strip_of a ≡ six a
@@ -19,7 +20,6 @@ unfolding strip_of
 strip_none = refl
 
 -- ---- none
-
 get_or-zeros : (n k : ℕ) → get_or {A = ℕ} (replicate n 0) k 0 ≡ 0
 get_or-zeros zero k = refl
 get_or-zeros (suc n) zero = refl

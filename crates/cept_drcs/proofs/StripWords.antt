@@ -10,7 +10,7 @@ use Rattle.std.proofs.Math.Nat.{pow-le-pow_right}
 use Rattle.cept_drcs.specs.declared.words.TheConstants.{TURNED}
 use Rattle.cept_drcs.specs.Block.{six}
 use Rattle.cept_drcs.specs.Strips.{strip_of, number_of}
-use Rattle.cept_drcs.specs.Unit.{words}
+use Rattle.cept_drcs.specs.Strips.{words}
 use Rattle.cept_drcs.proofs.StripLemmas.{strip_none}
 
 -- ---- bits turned round

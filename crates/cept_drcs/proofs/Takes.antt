@@ -4,8 +4,10 @@ use Rattle.std.proofs.Common.{refl, sym, ◌∙◌, arith}
 use Rattle.std.proofs.lemmas.Bool.Decides.{nat_tests}
 use Rattle.std.proofs.lemmas.Bool.{and_parts, ltb-true, cond-true, cond-false}
 use Rattle.std.proofs.Math.Bool.{and-true}
-use Rattle.cept_drcs.specs.Block.{has_pixels, is_sign, may_come, adds}
-use Rattle.cept_drcs.specs.Cut.{is_opener, plane_of}
+use Rattle.cept_drcs.specs.Block.{has_pixels}
+use Rattle.cept_drcs.specs.Adding.{is_sign, may_come, adds}
+use Rattle.cept_drcs.specs.Cut.{is_opener}
+use Rattle.cept_drcs.specs.Loading.{plane_of}
 use Rattle.cept_drcs.specs.Loading.{Loading, takes, loading_after, room, before, loading_with}
 use Rattle.cept_drcs.specs.Kept.{IsFed}
 

@@ -1,21 +1,25 @@
 -- Patterns of bytes are valid: each line has as many bits as the form is wide, and the lines are within its planes.
-use Rattle.std.proofs.Common.{◌≡◌, ℕ, zero, suc, ◌+◌, ◌-◌, ◌*◌, ◌^◌, ◌<◌, ◌≤◌, true, ◌⊎◌, ◌==◌, ◌||◌}
-use Rattle.std.proofs.Common.{List, [], ◌∷◌, ◌++◌, length, replicate, drop, slice_index, cond, min, Option, Some}
+use Rattle.std.proofs.Common.{◌≡◌, ℕ, zero, suc, ◌+◌, ◌-◌, ◌*◌, ◌^◌, ◌<◌, ◌≤◌, true, ◌⊎◌, ◌==◌}
+use Rattle.std.proofs.Common.{List, [], ◌∷◌, ◌++◌, length, replicate, drop, slice_index, cond, Option, Some}
 use Rattle.std.proofs.Common.{None, inl, inr}
 use Rattle.std.proofs.Common.{option_to_list, IsTrue, sym, ap, ◌∙◌, subst, pow_pos, pow_mono, pow-add, arith}
 use Rattle.std.proofs.Common.{add-zero, add-mul, one-mul, mul_assoc, mul-le-mul_right, mul_comm, suc-mul}
-use Rattle.std.proofs.lemmas.Bool.{cases_Bool, both_ways, cond_both, eq-eqb, ne_eqb}
+use Rattle.std.proofs.lemmas.Bool.{cases_Bool, both_ways, eq-eqb, ne_eqb}
 use Rattle.std.proofs.lemmas.Bool.Decides.{nat_tests}
 use Rattle.std.proofs.lemmas.List.{length-append}
 use Rattle.cept_codes.specs.declared.command.Form.{Form}
+use Rattle.cept_codes.specs.declared.look.Pattern.{Pattern}
 use Rattle.cept_codes.specs.Command.{IsValidForm}
 use Rattle.cept_codes.specs.Look.{IsValidPattern, is_pattern_size}
-use Rattle.cept_drcs.specs.Bytes.{is_between}
-use Rattle.cept_drcs.specs.Block.{blank, adds, lines_asked, part_after_bytes, has_pixels, sign_line, sign_lines, six, whole}
-use Rattle.cept_drcs.specs.Cut.{Block, is_opener, plane_of}
-use Rattle.cept_drcs.specs.Unit.{is_pattern, lines_from, pattern_of, pattern}
+use Rattle.cept_drcs.specs.Block.{blank, has_pixels, sign_lines, six}
+use Rattle.cept_drcs.specs.Adding.{adds, part_after_bytes, whole}
+use Rattle.cept_drcs.specs.Cut.{Block, is_opener}
+use Rattle.cept_drcs.specs.Loading.{plane_of}
+use Rattle.cept_drcs.specs.Unit.{is_pattern, lines_from, pattern}
+use Rattle.cept_drcs.specs.Loading.{pattern_of}
 use Rattle.cept_drcs.specs.Loading.{Loading, fresh, loading_after, load, all_lines, above, room, before, loading_at_plane, loading_with, Leads}
-use Rattle.cept_drcs.proofs.BlockLemmas.{half_line}
+use Rattle.cept_drcs.proofs.Cuts.{pattern_is}
+use Rattle.cept_drcs.proofs.BlockLemmas.{half_line, sign_cases}
 use Rattle.cept_drcs.proofs.Bridge.{next_plane, length-closed_lines}
 use Rattle.cept_drcs.proofs.Reading.{Ends, ended, leads_pattern, pattern_of_leads, no_pattern}
 use Rattle.cept_drcs.proofs.Numbers.{load_form, loading_after-form, led}
@@ -90,14 +94,9 @@ half_lines : (w : ℕ) (half : Option ℕ) → IsHalf w half → AreLines w (opt
 half_lines w None h = tt
 half_lines w (Some l) h = (half_below w l h, tt)
 
-sign_below : (w before a : ℕ) → before < 2 ^ w → sign_line w before a < 2 ^ w
-sign_below w before a h =
-    let z = pow_pos w in
-    cond_both (is_between 0x21 0x2A a || a == 0x2E) before _ (λ v. v < 2 ^ w) (λ _. h)
-    (λ _. cond_both (a == 0x20 || a == 0x2C) 0 (2 ^ w - 1) (λ v. v < 2 ^ w) (λ _. z) (λ _. omega arith))
-
 sign_drawn : (w room before a : ℕ) → before < 2 ^ w → AreLines w (sign_lines w room before a)
-sign_drawn w room before a h = lines_replicate w (min (lines_asked room a) room) _ (sign_below w before a h)
+sign_drawn w room before a h =
+    sign_cases w room before a (AreLines w) (λ n l _ _ below. lines_replicate w n l (below h))
 
 -- a pattern is of a width
 abbrev IsWide : ℕ → Type 0
@@ -230,7 +229,7 @@ led_valid f u l k =
     let ls = all_lines (load (fresh f) u) in
     let fit = lines_fit f ls (loaded_lines f u k.form) (few_lines f u l k) in
     let v = valid_of f (lines_from f.w 0 ls) k.form fit in
-    subst (λ (n : ℕ). IsValidPattern (pattern_of f n)) (led f u k.continue) v
+    subst (λ (t : Pattern). IsValidPattern t) (ap (pattern_of f) (led f u k.continue) ∙ sym (pattern_is f u)) v
 
 pub unit_valid : (f : Form) (u : List ℕ) → IsValidForm f → is_pattern f u ≡ true → IsValidPattern (pattern f u)
 unit_valid f [] v h = absurd (both_ways _ (no_pattern f) h)

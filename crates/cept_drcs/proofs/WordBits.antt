@@ -7,7 +7,7 @@ use Rattle.std.proofs.lemmas.Nat.{shr-shr}
 use Rattle.std.proofs.lemmas.Nat.Bits.{bit_at_cat_low, bit_at_above, bit_at-zero}
 use Rattle.std.specs.Int.{bit_at}
 use Rattle.cept_codes.specs.Look.{bit_of}
-use Rattle.cept_drcs.specs.Unit.{words}
+use Rattle.cept_drcs.specs.Strips.{words}
 
 pub length-words : (k n : ℕ) → length (words k n) ≡ k
 unfolding words

@@ -2,10 +2,9 @@
 use Rattle.std.proofs.Common.{◌≡◌, ℕ, ◌-◌, Bool, true, false, List, [], ◌∷◌, ◌++◌, map, replicate, refl}
 use Rattle.std.specs.List.{range_with_len}
 use Rattle.cept_codes.specs.declared.command.Form.{Form}
-use Rattle.cept_drcs.specs.Block.{adds, all_may_come, block_lines, part_after_bytes}
-use Rattle.cept_drcs.specs.Cut.{cut}
+use Rattle.cept_drcs.specs.Block.{with_byte, all_may_come, block_lines}
+use Rattle.cept_drcs.specs.Cut.{blocks}
 use Rattle.cept_drcs.specs.Unit.{are_blocks, blocks_number, is_pattern, lines_from, pattern, pattern_grows}
-use Rattle.cept_drcs.specs.Unit.{words}
 
 -- a form
 abbrev form : ℕ → ℕ → ℕ → Form
@@ -37,7 +36,7 @@ six_pixels =
     ∷ []
 
 six_pixels_are_lines : lines_of (form 6 5 1) six_pixels ≡ told six_pixels
-unfolding adds part_after_bytes
+unfolding with_byte
 six_pixels_are_lines = refl
 
 -- a line of 12 takes two bytes, the left half first. A half line alone is completed with pixels of 0
@@ -63,7 +62,7 @@ twelve_pixels =
     ∷ []
 
 twelve_pixels_are_lines : lines_of (form 12 10 1) twelve_pixels ≡ told twelve_pixels
-unfolding adds part_after_bytes
+unfolding with_byte
 twelve_pixels_are_lines = refl
 
 -- ---- signs of lines, 2/0 to 2/15 without 2/11
@@ -89,7 +88,7 @@ signs =
     ∷ []
 
 signs_add_lines : lines_of (form 6 12 1) signs ≡ told signs
-unfolding adds part_after_bytes
+unfolding with_byte
 signs_add_lines = refl
 
 -- the same after a half line, which each of them completes with pixels of 0
@@ -105,7 +104,7 @@ signs_after_half_lines =
     ∷ []
 
 half_lines_are_completed : lines_of (form 12 12 1) signs_after_half_lines ≡ told signs_after_half_lines
-unfolding adds part_after_bytes
+unfolding with_byte
 half_lines_are_completed = refl
 
 -- the line before is that of the sign before, and a line of 0 at the start of a block
@@ -119,20 +118,20 @@ lines_before =
     ∷ []
 
 lines_before_are_copied : lines_of (form 6 5 1) lines_before ≡ told lines_before
-unfolding adds part_after_bytes
+unfolding with_byte
 lines_before_are_copied = refl
 
 -- lines past the height are dropped, in each of the six sizes
 heights : map (λ f. block_lines f (0x2D ∷ 0x2A ∷ []))
     (form 12 12 1 ∷ form 12 10 1 ∷ form 6 12 1 ∷ form 6 10 1 ∷ form 6 5 1 ∷ form 6 6 1 ∷ [])
     ≡ replicate 11 0xFFF ∷ replicate 10 0xFFF ∷ replicate 11 63 ∷ replicate 10 63 ∷ replicate 5 63 ∷ replicate 6 63 ∷ []
-unfolding adds part_after_bytes
+unfolding with_byte
 heights = refl
 
 full_blocks : map (λ f. block_lines f (0x2F ∷ []))
     (form 12 12 1 ∷ form 12 10 1 ∷ form 6 12 1 ∷ form 6 10 1 ∷ form 6 5 1 ∷ form 6 6 1 ∷ [])
     ≡ replicate 12 0xFFF ∷ replicate 10 0xFFF ∷ replicate 12 63 ∷ replicate 10 63 ∷ replicate 5 63 ∷ replicate 6 63 ∷ []
-unfolding adds part_after_bytes
+unfolding with_byte
 full_blocks = refl
 
 -- ---- which bytes a block takes
@@ -146,41 +145,41 @@ abbrev by_columns : List Bool → List Bool
 by_columns column_3 = replicate 11 true ++ false ∷ replicate 4 true ++ column_3 ++ replicate 64 true
 
 first_bytes : taken_after (form 6 5 1) (0x30 ∷ []) ≡ by_columns (replicate 16 false)
-unfolding adds all_may_come are_blocks cut is_pattern part_after_bytes
+unfolding with_byte all_may_come are_blocks blocks is_pattern
 first_bytes = refl
 
 bytes_after_a_half_line : taken_after (form 12 10 1) (0x30 ∷ 0x60 ∷ []) ≡ by_columns (replicate 16 false)
-unfolding adds all_may_come are_blocks cut is_pattern part_after_bytes
+unfolding with_byte all_may_come are_blocks blocks is_pattern
 bytes_after_a_half_line = refl
 
 bytes_of_the_last_line : taken_after (form 6 5 1) (0x30 ∷ 0x24 ∷ []) ≡ by_columns (replicate 16 false)
-unfolding adds all_may_come are_blocks cut is_pattern part_after_bytes
+unfolding with_byte all_may_come are_blocks blocks is_pattern
 bytes_of_the_last_line = refl
 
 bytes_after_the_last_line : taken_after (form 6 5 1) (0x30 ∷ 0x25 ∷ []) ≡ replicate 96 false
-unfolding adds all_may_come are_blocks cut is_pattern part_after_bytes
+unfolding with_byte all_may_come are_blocks blocks is_pattern
 bytes_after_the_last_line = refl
 
 -- of four planes, 31 to 33 open one after plane 0, and only 33 does after plane 2
 openers_after_plane_0 : taken_after (form 6 5 4) (0x30 ∷ [])
     ≡ by_columns (false ∷ true ∷ true ∷ true ∷ replicate 12 false)
-unfolding adds all_may_come are_blocks cut is_pattern part_after_bytes
+unfolding with_byte all_may_come are_blocks blocks is_pattern
 openers_after_plane_0 = refl
 
 openers_after_plane_2 : taken_after (form 6 5 4) (0x30 ∷ 0x32 ∷ [])
     ≡ by_columns (false ∷ false ∷ false ∷ true ∷ replicate 12 false)
-unfolding adds all_may_come are_blocks cut is_pattern part_after_bytes
+unfolding with_byte all_may_come are_blocks blocks is_pattern
 openers_after_plane_2 = refl
 
 openers_of_two_planes : taken_after (form 6 5 2) (0x30 ∷ [])
     ≡ by_columns (false ∷ true ∷ replicate 14 false)
-unfolding adds all_may_come are_blocks cut is_pattern part_after_bytes
+unfolding with_byte all_may_come are_blocks blocks is_pattern
 openers_of_two_planes = refl
 
 -- the first opener is 30
 first_openers : map (λ byte. is_pattern (form 6 5 4) (byte ∷ [])) (range_with_len 0x20 96)
     ≡ replicate 16 false ++ true ∷ replicate 79 false
-unfolding adds all_may_come are_blocks cut is_pattern part_after_bytes
+unfolding with_byte all_may_come are_blocks blocks is_pattern
 first_openers = refl
 
 -- a byte fits after a pattern that lacks a line or a plane, and after no other
@@ -188,7 +187,7 @@ growing : map (λ u. pattern_grows (form 6 5 2) u)
     ((0x30 ∷ []) ∷ (0x30 ∷ 0x24 ∷ []) ∷ (0x30 ∷ 0x25 ∷ []) ∷ (0x30 ∷ 0x25 ∷ 0x31 ∷ []) ∷ (0x30 ∷ 0x31 ∷ 0x24 ∷ [])
     ∷ (0x30 ∷ 0x31 ∷ 0x25 ∷ []) ∷ (0x30 ∷ 0x25 ∷ 0x31 ∷ 0x25 ∷ []) ∷ [])
     ≡ true ∷ true ∷ true ∷ true ∷ true ∷ false ∷ false ∷ []
-unfolding adds all_may_come are_blocks cut is_pattern part_after_bytes pattern_grows
+unfolding with_byte all_may_come are_blocks blocks is_pattern pattern_grows
 growing = refl
 
 -- ---- where pixels stand: that of plane p, line y and column x is bit number (p * h + y) * w + x
@@ -204,7 +203,7 @@ bits f u = (pattern f u).bits
 second_pixel_of_the_second_line : map (λ f. bits f (0x30 ∷ 0x2C ∷ 0x50 ∷ []))
     (form 12 12 1 ∷ form 12 10 1 ∷ form 6 12 1 ∷ form 6 10 1 ∷ form 6 5 1 ∷ form 6 6 1 ∷ [])
     ≡ word 0 0x2000 ∷ word 0 0x2000 ∷ word 0 0x80 ∷ word 0 0x80 ∷ word 0 0x80 ∷ word 0 0x80 ∷ []
-unfolding adds blocks_number cut lines_from part_after_bytes words
+unfolding with_byte blocks_number blocks lines_from
 second_pixel_of_the_second_line = refl
 
 -- the last pixel of the last line of the only plane, of plane 1 of two, and of plane 3 of four
@@ -218,39 +217,39 @@ last_pixel w h line =
 -- bits 143, 287 and 575
 last_pixel_of_12_by_12 : last_pixel 12 12 (0x40 ∷ 0x41 ∷ [])
     ≡ word 2 0x8000 ∷ word 4 0x80000000 ∷ word 8 0x8000000000000000 ∷ []
-unfolding adds blocks_number cut lines_from part_after_bytes words
+unfolding with_byte blocks_number blocks lines_from
 last_pixel_of_12_by_12 = refl
 
 -- bits 119, 239 and 479
 last_pixel_of_12_by_10 : last_pixel 12 10 (0x40 ∷ 0x41 ∷ [])
     ≡ word 1 0x80000000000000 ∷ word 3 0x800000000000 ∷ word 7 0x80000000 ∷ []
-unfolding adds blocks_number cut lines_from part_after_bytes words
+unfolding with_byte blocks_number blocks lines_from
 last_pixel_of_12_by_10 = refl
 
 -- bits 71, 143 and 287
 last_pixel_of_6_by_12 : last_pixel 6 12 (0x41 ∷ []) ≡ word 1 0x80 ∷ word 2 0x8000 ∷ word 4 0x80000000 ∷ []
-unfolding adds blocks_number cut lines_from part_after_bytes words
+unfolding with_byte blocks_number blocks lines_from
 last_pixel_of_6_by_12 = refl
 
 -- bits 59, 119 and 239
 last_pixel_of_6_by_10 : last_pixel 6 10 (0x41 ∷ [])
     ≡ word 0 0x800000000000000 ∷ word 1 0x80000000000000 ∷ word 3 0x800000000000 ∷ []
-unfolding adds blocks_number cut lines_from part_after_bytes words
+unfolding with_byte blocks_number blocks lines_from
 last_pixel_of_6_by_10 = refl
 
 -- bits 29, 59 and 119
 last_pixel_of_6_by_5 : last_pixel 6 5 (0x41 ∷ [])
     ≡ word 0 0x20000000 ∷ word 0 0x800000000000000 ∷ word 1 0x80000000000000 ∷ []
-unfolding adds blocks_number cut lines_from part_after_bytes words
+unfolding with_byte blocks_number blocks lines_from
 last_pixel_of_6_by_5 = refl
 
 -- bits 35, 71 and 143
 last_pixel_of_6_by_6 : last_pixel 6 6 (0x41 ∷ []) ≡ word 0 0x800000000 ∷ word 1 0x80 ∷ word 2 0x8000 ∷ []
-unfolding adds blocks_number cut lines_from part_after_bytes words
+unfolding with_byte blocks_number blocks lines_from
 last_pixel_of_6_by_6 = refl
 
 -- the first pixels of planes 0 to 3 of 12x12: bits 0, 144, 288 and 432
 first_pixels_of_planes : bits (form 12 12 4) (0x30 ∷ 0x60 ∷ 0x31 ∷ 0x60 ∷ 0x32 ∷ 0x60 ∷ 0x33 ∷ 0x60 ∷ [])
     ≡ 1 ∷ 0 ∷ 0x10000 ∷ 0 ∷ 0x100000000 ∷ 0 ∷ 0x1000000000000 ∷ 0 ∷ 0 ∷ []
-unfolding adds blocks_number cut lines_from part_after_bytes words
+unfolding with_byte blocks_number blocks lines_from
 first_pixels_of_planes = refl

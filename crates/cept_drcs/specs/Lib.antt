@@ -1,3 +1,4 @@
+pub mod Adding
 pub mod Block
 pub mod Bytes
 pub mod Cut

@@ -3,9 +3,16 @@ use Rattle.std.specs.Prelude.{◌≡◌, ℕ, ◌+◌, ◌-◌, ◌*◌, Bool, t
 use Rattle.std.specs.Prelude.{replicate, if◌then◌else◌, ◌==◌, nat_lt, Option, None}
 use Rattle.std.specs.Option.{option_to_list}
 use Rattle.cept_codes.specs.declared.command.Form.{Form}
+use Rattle.cept_codes.specs.declared.look.Pattern.{Pattern}
 use Rattle.cept_codes.specs.Command.{IsValidForm}
-use Rattle.cept_drcs.specs.Block.{BlockPart, adds, may_come, last_line}
-use Rattle.cept_drcs.specs.Cut.{is_opener, plane_of}
+use Rattle.cept_drcs.specs.Block.{BlockPart}
+use Rattle.cept_drcs.specs.Adding.{adds, may_come, last_line}
+use Rattle.cept_drcs.specs.Cut.{is_opener}
+use Rattle.cept_drcs.specs.Strips.{words}
+
+-- the plane that an opener opens
+abbrev pub plane_of : ℕ → ℕ
+plane_of a = a - 0x30
 
 -- the form, whether a plane is open and which, all whole lines of the planes up to it, and its half line
 pub record Loading : Type 0 where
@@ -57,6 +64,10 @@ loading_after l a =
     if l.begun then
     (if is_opener a then loading_at_plane l (plane_of a) else loading_with l (adds l.form.w (room l) (before l) l.half a)) else
     record l { begun = true }
+
+-- the pattern of this form whose bits are this number
+abbrev pub pattern_of : Form → ℕ → Pattern
+pattern_of f n = record { w = f.w; h = f.h; planes = f.planes; bits = words 9 n }
 
 -- it continues the pattern
 unfoldable pub takes : Loading → ℕ → Bool

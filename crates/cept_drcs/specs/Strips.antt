@@ -1,6 +1,6 @@
 -- Lines cut into strips of six pixels, from the left and from the top (this project's own). A loader keeps the byte of
 -- each strip.
-use Rattle.std.specs.Prelude.{ℕ, zero, suc, ◌≡◌, ◌+◌, ◌*◌, ◌≤◌, List, [], ◌∷◌, map, slice_index}
+use Rattle.std.specs.Prelude.{ℕ, zero, suc, ◌≡◌, ◌+◌, ◌*◌, ◌/◌, ◌%◌, ◌^◌, ◌≤◌, List, [], ◌∷◌, map, slice_index}
 use Rattle.std.specs.Prelude.{if◌then◌else◌, ◌==◌, Option, Some, None}
 use Rattle.cept_drcs.specs.Block.{six}
 
@@ -45,6 +45,11 @@ pairs (suc n) a b = a ∷ b ∷ pairs n a b
 unfoldable pub number_of : ℕ → ℕ → List ℕ → ℕ
 number_of zero i ss = 0
 number_of (suc n) i ss = strip_of (slice_index ss i) + 64 * number_of n (i + 1) ss
+
+-- a number in words of 64 bits, the lowest first
+unfoldable pub words : ℕ → ℕ → List ℕ
+words zero n = []
+words (suc k) n = (n % 2 ^ 64) ∷ words k (n / 2 ^ 64)
 
 -- at most 96 strips, and what stands in the room after them is 0
 pub record AreKeptStrips (room : List ℕ) (count : ℕ) : Type 0 where

@@ -2,12 +2,12 @@
 -- own).
 use Rattle.std.specs.List.{list_any, range_with_len}
 use Rattle.std.specs.Prelude.{◌≡◌, ◌<◌, ◌++◌, if◌then◌else◌, slice_index}
-use Rattle.std.specs.Prelude.{ℕ, zero, suc, ◌+◌, ◌*◌, ◌/◌, ◌%◌, ◌^◌, Bool, true, false, ◌&&◌, List, []}
+use Rattle.std.specs.Prelude.{ℕ, ◌+◌, ◌*◌, ◌/◌, ◌%◌, ◌^◌, Bool, true, false, ◌&&◌, List, [], map}
 use Rattle.std.specs.Prelude.{◌∷◌, ◌==◌, nat_lt, nat_le}
 use Rattle.cept_codes.specs.declared.command.Form.{Form}
 use Rattle.cept_codes.specs.declared.look.Pattern.{Pattern}
 use Rattle.cept_drcs.specs.Block.{blank, all_may_come, block_lines}
-use Rattle.cept_drcs.specs.Cut.{Block, cut}
+use Rattle.cept_drcs.specs.Cut.{Block, blocks}
 
 -- blocks of planes that ascend strictly, from this one on, and are planes of the form
 unfoldable pub are_blocks : Form → ℕ → List Block → Bool
@@ -18,7 +18,7 @@ are_blocks f p (b ∷ bs) =
 -- these bytes are a pattern unit: the first opens plane 0
 unfoldable pub is_pattern : Form → List ℕ → Bool
 is_pattern f [] = false
-is_pattern f (a ∷ u) = a == 0x30 && are_blocks f 0 (cut (a ∷ u)).blocks
+is_pattern f (a ∷ u) = a == 0x30 && are_blocks f 0 (blocks (a ∷ u))
 
 -- a byte fits after a unit
 unfoldable pub pattern_grows : Form → List ℕ → Bool
@@ -40,18 +40,11 @@ unfoldable pub blocks_number : Form → List Block → ℕ
 blocks_number f [] = 0
 blocks_number f (b ∷ bs) = lines_from f.w (b.plane * f.h) (block_lines f b.bytes) + blocks_number f bs
 
--- a number in words of 64 bits, the lowest first
-unfoldable pub words : ℕ → ℕ → List ℕ
-words zero n = []
-words (suc k) n = (n % 2 ^ 64) ∷ words k (n / 2 ^ 64)
-
--- the pattern of this form whose bits are this number
-abbrev pub pattern_of : Form → ℕ → Pattern
-pattern_of f n = record { w = f.w; h = f.h; planes = f.planes; bits = words 9 n }
-
--- the pattern of these bytes
+-- the pattern of these bytes: the number of its blocks is its bits, in nine words of 64, the lowest first
 abbrev pub pattern : Form → List ℕ → Pattern
-pattern f u = pattern_of f (blocks_number f (cut u).blocks)
+pattern f u =
+    let n = blocks_number f (blocks u) in
+    record { w = f.w; h = f.h; planes = f.planes; bits = map (λ k. n / 2 ^ (64 * k) % 2 ^ 64) (range_with_len 0 9) }
 
 -- the lines of this plane among blocks, none where it has no block
 unfoldable pub plane_lines : Form → ℕ → List Block → List ℕ
@@ -60,4 +53,4 @@ plane_lines f p (b ∷ bs) = if b.plane == p then block_lines f b.bytes else pla
 
 -- the pixel of column x and line y that these bytes draw in a plane, 0 where there is no such line
 abbrev pub drawn_pixel : Form → List ℕ → ℕ → ℕ → ℕ → ℕ
-drawn_pixel f u p y x = slice_index (plane_lines f p (cut u).blocks) y / 2 ^ x % 2
+drawn_pixel f u p y x = slice_index (plane_lines f p (blocks u)) y / 2 ^ x % 2

@@ -6,7 +6,7 @@ ghost use Rattle.cept_drcs.specs.inside.Kept.{HasRoomFor};
 ghost use Rattle.cept_drcs.specs.Strips.{strips_in};
 ghost use Rattle.cept_drcs.specs.inside.Strips.{strip_line};
 
-use crate::lines::{first_line, has_pixels, is_opener, is_sign, lines_asked};
+use crate::lines::{first_line, has_pixels, is_opener, is_sign};
 use crate::strips::Strips;
 use cept_codes::{Form, Pattern};
 use std::marker::Model;
@@ -54,8 +54,10 @@ impl Drawing {
     ghost use Rattle.cept_drcs.specs.Loading.{all_lines, loading_at_plane, loading_with};
     ghost use Rattle.cept_drcs.specs.inside.Loading.{completed_loading};
     ghost use Rattle.cept_drcs.specs.Loading.{is_full};
-    ghost use Rattle.cept_drcs.specs.Unit.{pattern_of, lines_from};
-    ghost use Rattle.cept_drcs.specs.Block.{adds, sign_lines, whole, has_pixels, is_sign};
+    ghost use Rattle.cept_drcs.specs.Unit.{lines_from};
+    ghost use Rattle.cept_drcs.specs.Loading.{pattern_of};
+    ghost use Rattle.cept_drcs.specs.Block.{sign_lines, has_pixels};
+    ghost use Rattle.cept_drcs.specs.Adding.{adds, whole, is_sign};
 
     /// A pattern before its first byte.
     pub fn new(form: Form) -> Drawing
@@ -203,13 +205,13 @@ impl Drawing {
             (whole (sign_lines self.old.form.w (room self.old) (before self.old) byte)) }
     {
         let room = self.room();
-        let lines = lines_asked(room, byte).min(room);
-        if (0x21 <= byte && byte <= 0x2A) || byte == 0x2E {
-            self.repeat(lines);
-        } else if byte == 0x20 || byte == 0x2C {
-            self.skip(lines);
-        } else {
-            self.fill(lines);
+        match byte {
+            0x21..=0x2A => self.repeat((byte - 0x20).min(room)),
+            0x20 => self.skip(room),
+            0x2C => self.skip(room.min(1)),
+            0x2D => self.fill(room.min(1)),
+            0x2E => self.repeat(room),
+            _ => self.fill(room),
         }
     }
 

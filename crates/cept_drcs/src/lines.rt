@@ -1,5 +1,6 @@
 ghost use Rattle.std.specs.Prelude.{◌≡◌, ◌≤◌, ◌<◌, ◌+◌, ◌*◌};
-ghost use Rattle.cept_drcs.specs.Block.{has_pixels, is_sign, lines_asked};
+ghost use Rattle.cept_drcs.specs.Block.{has_pixels};
+ghost use Rattle.cept_drcs.specs.Adding.{is_sign};
 ghost use Rattle.cept_drcs.specs.Cut.{is_opener};
 ghost use Rattle.cept_drcs.specs.Kept.{IsPlaneOf};
 
@@ -24,19 +25,6 @@ pub fn is_opener(byte: u8) -> bool
     ensures { result ≡ is_opener byte }
 {
     0x30 <= byte && byte <= 0x33
-}
-
-/// How many lines a sign asks for, where this many are left.
-pub fn lines_asked(room: u8, byte: u8) -> u8
-    ensures { result ≡ lines_asked room byte }
-{
-    if 0x21 <= byte && byte <= 0x2A {
-        byte - 0x20
-    } else if 0x2C <= byte && byte <= 0x2D {
-        1
-    } else {
-        room
-    }
 }
 
 /// The first line of a plane, counted over all planes.

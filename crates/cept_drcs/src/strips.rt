@@ -1,6 +1,6 @@
 ghost use Rattle.std.specs.Prelude.{◌≡◌, List, [], ◌∷◌, ◌++◌, ◌≤◌, ◌<◌, ◌+◌, ◌*◌, ◌-◌};
 ghost use Rattle.std.specs.Prelude.{◌^◌, length, replicate, slice_index};
-ghost use Rattle.cept_drcs.specs.Unit.{words};
+ghost use Rattle.cept_drcs.specs.Strips.{words};
 ghost use Rattle.cept_drcs.specs.Strips.{number_of, pairs};
 
 use crate::words::{strip, ten};

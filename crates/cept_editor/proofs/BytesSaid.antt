@@ -15,7 +15,7 @@ use Rattle.cept_parser.specs.Items as reads
 use Rattle.cept_parser.specs.Items.{is_refusal, items, closed_items, closing_items, command_said, commands_of, commands}
 use Rattle.cept_parser.specs.State.{ParserState, Leads, reading_with, parser_after, pending_reading}
 use Rattle.cept_parser.specs.Valid.{AreValid}
-use Rattle.cept_editor.specs.Meaning.{byte_of, hex_bytes, bytes_have_refusal}
+use Rattle.cept_editor.specs.Meaning.{byte_of, hex_bytes}
 use Rattle.cept_editor.specs.Order.{raw_bytes, start_state, items_from}
 
 -- one of the items is refused
@@ -100,7 +100,7 @@ gone_more all done left byte s t refused is g more leads answer state valid =
 
 -- a parser read all bytes
 pub record HasSaid (all : List ℕ) (found : Bool) : Type 0 where
-  pub refused : found ≡ bytes_have_refusal all
+  pub refused : found ≡ any_refused (closed_items all)
   pub said : commands_of (items_from start_state all) ≡ commands all
   pub valid : AllByRecursion IsValidCommand (commands all)
 

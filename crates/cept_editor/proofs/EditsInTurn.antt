@@ -14,8 +14,8 @@ use Rattle.cept_editor.specs.Events.{Event, event_changes, paints}
 use Rattle.cept_editor.specs.Kept.{KeptEdits, none_kept, finds_nothing, kept_after_undo_redo, kept_after, kept_after_all, kept}
 use Rattle.cept_editor.specs.Kept.{remaining, states_before, states_again, commands_of_edits}
 use Rattle.cept_editor.specs.Meaning.{Step, UndoRedoKind, UndoRedo, Undo, Redo, Edit}
-use Rattle.cept_editor.specs.Stepping.{event_from, edit_events, nothing_event, line_events}
-use Rattle.cept_editor.proofs.MadeEvents.{paints-append, paints-one, paints-none, no_paint, event_shown}
+use Rattle.cept_editor.specs.Stepping.{event_from, edit_events, line_events}
+use Rattle.cept_editor.proofs.MadeEvents.{paints-append, paints-one, paints-none, no_paint, event_shown, nothing_event}
 
 -- ---- kept edits
 

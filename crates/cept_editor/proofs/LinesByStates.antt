@@ -16,10 +16,10 @@ use Rattle.cept_editor.specs.Applying.{changes_in_turn, changes_of_step, editor_
 use Rattle.cept_editor.specs.Events.{Event, event_changes, paints}
 use Rattle.cept_editor.specs.Kept.{EditorState, KeptEdits, StandsAfter, finds_nothing, kept_after, remaining}
 use Rattle.cept_editor.specs.Meaning.{Edit, HasCommand, IsValidStep, Step, UndoRedo, UndoRedoKind}
-use Rattle.cept_editor.specs.Stepping.{edit_events, event_from, line_events, nothing_event, states_ahead}
+use Rattle.cept_editor.specs.Stepping.{edit_events, event_from, line_events, states_ahead}
 use Rattle.cept_editor.proofs.EditsInTurn.{edit_events-first, edit_events-none}
 use Rattle.cept_editor.proofs.KeptStates.{AllByRecursion-append, StandsAfter-edit}
-use Rattle.cept_editor.proofs.MadeEvents.{paints-append, paints-none, paints-one}
+use Rattle.cept_editor.proofs.MadeEvents.{paints-append, paints-none, paints-one, nothing_event}
 use Rattle.cept_editor.proofs.UndoRedoStates.{StandsAfter-undo_redo, idle_undo_redo, kept-idle, none_ahead}
 
 screen_is : (old : EditorState) (page : List Command) (k : KeptEdits) → StandsAfter old page k

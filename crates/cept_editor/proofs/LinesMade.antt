@@ -19,12 +19,12 @@ use Rattle.cept_editor.specs.Events.{Event}
 use Rattle.cept_editor.specs.Kept.{KeptEdits, finds_nothing, kept_after, remaining, EditorState, StandsAfter}
 use Rattle.cept_editor.specs.Made.{Output, IsMade, AreMade, AreCutOff}
 use Rattle.cept_editor.specs.Meaning.{UndoRedoKind, UndoRedo, Edit}
-use Rattle.cept_editor.specs.Stepping.{event_from, nothing_event, line_events, states_ahead, GoesOn}
+use Rattle.cept_editor.specs.Stepping.{event_from, line_events, states_ahead, GoesOn}
 use Rattle.cept_editor.proofs.AppliedInTurn.{made_from}
 use Rattle.cept_editor.proofs.KeptStates.{AllByRecursion-take, StandsAfter-edit}
 use Rattle.cept_editor.proofs.UndoRedoStates.{StandsAfter-undo_redo, undo_redo_differs, finds_none, finds_some, kept-idle, idle_undo_redo}
 use Rattle.cept_editor.proofs.UndoRedoStates.{moved_as}
-use Rattle.cept_editor.proofs.MadeEvents.{AreMade-none, AreMade-more, AreCutOff-here}
+use Rattle.cept_editor.proofs.MadeEvents.{AreMade-none, AreMade-more, AreCutOff-here, nothing_event}
 
 -- ---- an edit
 

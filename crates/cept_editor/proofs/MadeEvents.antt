@@ -1,11 +1,12 @@
 -- Events that were made one after the other.
 use Rattle.std.proofs.Common.{◌≡◌, ℕ, ◌≤◌, List, [], ◌∷◌, ◌++◌, take, Ok, Err, refl, sym, ap, ◌∙◌, subst}
 use Rattle.std.proofs.Common.{append_assoc, append-nil, arith}
-use Rattle.std.specs.Prelude.{Result, OnOk, OnErr}
+use Rattle.std.specs.Prelude.{Bool, if◌then◌else◌, Result, OnOk, OnErr}
 use Rattle.std.proofs.lemmas.Grind.{flat_map-append}
 use Rattle.cept_outside.specs.Causes.{Rose}
 use Rattle.cept_outside.specs.SinkState.{Gains, GainsPart}
 use Rattle.cept_outside.proofs.Laws.{Gains-nil, Gains-append}
+use Rattle.cept_codes.specs.declared.command.Command.{Command}
 use Rattle.cept_codes.specs.declared.look.Look.{Look}
 use Rattle.cept_codes.specs.Place.{Place}
 use Rattle.cept_codes.proofs.Laws.{IsTable-table}
@@ -14,8 +15,13 @@ use Rattle.cept_profile.specs.Changes.{changes_between, grid_with_paints}
 use Rattle.cept_profile.specs.Look.{grid, look}
 use Rattle.cept_profile.specs.State.{core}
 use Rattle.cept_repaint.specs.GlassState.{GlassState, Lists}
-use Rattle.cept_editor.specs.Events.{Event, event_changes, report, paints}
+use Rattle.cept_report.specs.Text.{nothing_line}
+use Rattle.cept_editor.specs.Events.{Event, still_event, event_changes, report, paints}
 use Rattle.cept_editor.specs.Made.{Output, AreStill, ArePainted, IsMade, AreMade, AreCutOff}
+
+-- an undo or a redo that finds nothing
+abbrev pub nothing_event : Bool → ℕ → List Command → Event
+nothing_event listed line commands = still_event commands (if listed then nothing_line line else [])
 
 -- ---- texts and changes in order
 

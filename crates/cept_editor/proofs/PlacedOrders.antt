@@ -4,6 +4,7 @@ use Rattle.std.proofs.Common.{Result, Ok, Err, IfOk, Bor, slice_range, refl, sym
 use Rattle.std.specs.List.{list_all}
 use Rattle.std.proofs.lemmas.List.{drop-drop, drop-take, drop_all, length-drop}
 use Rattle.cept_codes.specs.declared.line_reason.LineReason.{LineReason}
+use Rattle.cept_parser.specs.Bytes.{is_between}
 use Rattle.cept_parser.specs.Items.{commands}
 use Rattle.cept_editor.specs.declared.order.Order.{Order}
 use Rattle.cept_editor.specs.declared.order.Order.TheVariants as orders
@@ -11,7 +12,7 @@ use Rattle.cept_editor.specs.declared.places.Span.{Span}
 use Rattle.cept_words.specs.Cut.{IsCut}
 use Rattle.cept_words.specs.Lines.{words}
 use Rattle.cept_words.specs.Words.{words_after, bytes_after}
-use Rattle.cept_editor.specs.Meaning.{Edit, HasCommand, is_sign, step_by, step_of_words}
+use Rattle.cept_editor.specs.Meaning.{Edit, HasCommand, step_by, step_of_words}
 use Rattle.cept_editor.specs.Order.{raw_bytes, text_commands, order_step, AreSoundDigits, IsSoundOrder}
 use Rattle.cept_editor.specs.inside.Order.{step_meant}
 use Rattle.cept_editor.specs.inside.Order.{IsPlainOrder}
@@ -49,7 +50,7 @@ placed_as script bytes span (orders.Text place) lies is s =
       ap (λ (x : List ℕ). Edit (text_commands x)) same,
       record {
         lies = subst (LiesIn script) (sym s.0) lies;
-        sound = (refl, subst (λ (x : List ℕ). list_all is_sign x ≡ true) (sym same) s.1);
+        sound = (refl, subst (λ (x : List ℕ). list_all (is_between 0x20 0x7E) x ≡ true) (sym same) s.1);
       },
     )
 placed_as script bytes span (orders.Raw place) lies is s =

@@ -13,11 +13,12 @@ use Rattle.cept_codes.specs.declared.item.Said.{Said}
 use Rattle.cept_codes.specs.declared.item.Said.TheVariants.{Command as Says, Refused}
 use Rattle.cept_parser.specs.declared.context.Context.{Context}
 use Rattle.cept_parser.specs.Context.{start_context}
-use Rattle.cept_parser.specs.Items.{Front, front, reading_by, reading_within, closing_items, closed_items, is_refusal}
+use Rattle.cept_parser.specs.Items.{Front, front, waiting_reading, reading_by, reading_within, closing_items, closed_items, is_refusal}
 use Rattle.cept_parser.specs.Items.{command_said, commands_of, commands}
-use Rattle.cept_editor.specs.Meaning.{byte_of, hex_bytes, bytes_have_refusal, bytes_step, Step, Edit}
+use Rattle.cept_parser.proofs.LongestBeginningLemmas.{closing_is}
+use Rattle.cept_editor.specs.Meaning.{byte_of, hex_bytes, bytes_step, Step, Edit}
 use Rattle.cept_editor.specs.Order.{raw_bytes}
-use Rattle.cept_editor.proofs.BytesSaid.{with_byte}
+use Rattle.cept_editor.proofs.BytesSaid.{any_refused, with_byte}
 
 pub unread_step : (o : Option (List ℕ)) → is_some o ≡ false → bytes_step o ≡ Err reasons.BadHex
 unread_step None e = refl
@@ -47,12 +48,12 @@ abbrev pub by_refusal : Bool → List ℕ → Result Step LineReason
 by_refusal refused bytes = cond refused (Err reasons.BadBytes) (Ok (Edit (commands bytes)))
 
 some_bytes : (o : Option (List ℕ)) (a : ℕ) (more : List ℕ) → o ≡ Some (a ∷ more)
-    → bytes_step o ≡ by_refusal (bytes_have_refusal (unwrap_or o [])) (unwrap_or o [])
+    → bytes_step o ≡ by_refusal (any_refused (closed_items (unwrap_or o []))) (unwrap_or o [])
 some_bytes o a more e =
-    subst (λ (p : Option (List ℕ)). bytes_step p ≡ by_refusal (bytes_have_refusal (unwrap_or p [])) (unwrap_or p [])) (sym e) refl
+    subst (λ (p : Option (List ℕ)). bytes_step p ≡ by_refusal (any_refused (closed_items (unwrap_or p []))) (unwrap_or p [])) (sym e) refl
 
 pub raw_step : (digits : List ℕ) (refused : Bool) → 0 < length digits → is_some (hex_bytes digits) ≡ true
-    → refused ≡ bytes_have_refusal (raw_bytes digits) → bytes_step (hex_bytes digits) ≡ by_refusal refused (raw_bytes digits)
+    → refused ≡ any_refused (closed_items (raw_bytes digits)) → bytes_step (hex_bytes digits) ≡ by_refusal refused (raw_bytes digits)
 raw_step digits refused l e r =
     let b = has_byte digits l e in
     some_bytes (hex_bytes digits) b.0 b.1 b.2 ∙ ap (λ (x : Bool). by_refusal x (raw_bytes digits)) (sym r)
@@ -69,8 +70,9 @@ some_length (a ∷ more) e = omega arith
 
 by_front : (n : ℕ) (x : Context) (at a : ℕ) (more : List ℕ) (f : Option Front)
     → let r = reading_by (reading_within n) x at (a ∷ more) f in 0 < length (r.items ++ closing_items r)
-unfolding reading_by closing_items
-by_front n x at a more None = omega arith
+unfolding reading_by
+by_front n x at a more None =
+    subst (λ (is : List Item). 0 < length is) (sym (closing_is (waiting_reading x at (a ∷ more)))) (omega arith)
 by_front n x at a more (Some f) = omega arith
 
 some_item : (a : ℕ) (more : List ℕ) → 0 < length (closed_items (a ∷ more))
@@ -90,13 +92,13 @@ some_said [] some none = absurd (omega (arith, some))
 some_said (i ∷ is) some none = said_first i.what (list_any (λ j. is_refusal j.what) is) (commands_of is) none
 
 some_command : (o : Option (List ℕ)) (a : ℕ) (more : List ℕ) → o ≡ Some (a ∷ more)
-    → bytes_have_refusal (unwrap_or o []) ≡ false → 0 < length (commands (unwrap_or o []))
+    → any_refused (closed_items (unwrap_or o [])) ≡ false → 0 < length (commands (unwrap_or o []))
 some_command o a more is =
-    subst (λ (p : Option (List ℕ)). bytes_have_refusal (unwrap_or p []) ≡ false → 0 < length (commands (unwrap_or p [])))
+    subst (λ (p : Option (List ℕ)). any_refused (closed_items (unwrap_or p [])) ≡ false → 0 < length (commands (unwrap_or p [])))
     (sym is) (some_said (closed_items (a ∷ more)) (some_item a more))
 
 pub raw_some : (digits : List ℕ) → 0 < length digits → is_some (hex_bytes digits) ≡ true
-    → bytes_have_refusal (raw_bytes digits) ≡ false → 0 < length (commands (raw_bytes digits))
+    → any_refused (closed_items (raw_bytes digits)) ≡ false → 0 < length (commands (raw_bytes digits))
 raw_some digits some readable none =
     let b = has_byte digits some readable in
     some_command (hex_bytes digits) b.0 b.1 b.2 none

@@ -7,19 +7,20 @@ use Rattle.std.proofs.lemmas.List.{append-nil}
 use Rattle.cept_codes.specs.Command.{IsValidCommand}
 use Rattle.cept_codes.specs.declared.command.Command.TheVariants.{Graphic}
 use Rattle.cept_codes.specs.declared.line_reason.LineReason.{LineReason}
+use Rattle.cept_parser.specs.Bytes.{is_between}
 use Rattle.cept_editor.specs.declared.order.Order.{Order}
 use Rattle.cept_editor.specs.declared.order.Order.TheVariants as orders
 use Rattle.cept_editor.specs.declared.places.OrderLine.{OrderLine}
 use Rattle.cept_editor.specs.declared.places.Span.{Span}
-use Rattle.cept_editor.specs.Meaning.{Step, IsValidStep, is_sign}
+use Rattle.cept_editor.specs.Meaning.{Step, IsValidStep}
 use Rattle.cept_editor.specs.Order.{order_step, IsSoundOrder}
 use Rattle.cept_editor.specs.Places.{step_at, IsPlacedOrder}
 use Rattle.cept_editor.specs.inside.Places.{HasKept}
 
-pub signs_valid : (text : List ℕ) → list_all is_sign text ≡ true → AllByRecursion IsValidCommand (map Graphic text)
+pub signs_valid : (text : List ℕ) → list_all (is_between 0x20 0x7E) text ≡ true → AllByRecursion IsValidCommand (map Graphic text)
 signs_valid [] e = tt
 signs_valid (a ∷ text) e =
-    let parts = and_parts (is_sign a) (list_all is_sign text) e in
+    let parts = and_parts (is_between 0x20 0x7E a) (list_all (is_between 0x20 0x7E) text) e in
     let ends = and_parts (nat_le 0x20 a) (nat_le a 0x7E) parts.0 in
     let low = leb-true 0x20 a ends.0 in
     let high = leb-true a 0x7E ends.1 in
@@ -43,6 +44,6 @@ kept_some script m o l ps qs e placed is k =
     )
 
 -- the commands of a text, with nothing after them
-pub text_valid : (text : List ℕ) → list_all is_sign text ≡ true → AllByRecursion IsValidCommand (map Graphic text ++ [])
+pub text_valid : (text : List ℕ) → list_all (is_between 0x20 0x7E) text ≡ true → AllByRecursion IsValidCommand (map Graphic text ++ [])
 text_valid text e =
     subst (AllByRecursion IsValidCommand) (sym (append-nil (map Graphic text))) (signs_valid text e)

@@ -9,9 +9,9 @@ use Rattle.cept_editor.specs.Meaning.{Edit, hex_bytes, line_meaning}
 use Rattle.cept_editor.specs.Table.{row_of}
 
 means-raw : line_meaning (codes "raw 0b") ≡ Ok (Some (Edit (commands.Up ∷ [])))
-unfolding line_meaning row_of hex_bytes reads.reading_within reads.reading_by reads.front reads.front_of reads.longest_beginning reads.longest_beginning_within reads.closing_items reads.said_at_end grammar.unit grammar.fits grammar.grows controls.one_byte
+unfolding line_meaning row_of hex_bytes reads.reading_within reads.reading_by reads.front reads.longest_beginning_within reads.closing_items grammar.unit grammar.fits grammar.grows controls.one_byte
 means-raw = refl
 
 refuses-raw : line_meaning (codes "raw 1C") ≡ Err reasons.BadBytes
-unfolding line_meaning row_of hex_bytes reads.reading_within reads.reading_by reads.front reads.front_of reads.longest_beginning reads.longest_beginning_within reads.closing_items reads.said_at_end grammar.unit grammar.fits grammar.grows controls.one_byte
+unfolding line_meaning row_of hex_bytes reads.reading_within reads.reading_by reads.front reads.longest_beginning_within reads.closing_items grammar.unit grammar.fits grammar.grows controls.one_byte
 refuses-raw = refl

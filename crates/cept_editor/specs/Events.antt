@@ -15,6 +15,10 @@ pub record Event : Type 0 where
   pub after : List Command
   pub text : List ℕ
 
+-- an event that changes nothing: these commands remain, and this text is put
+abbrev pub still_event : List Command → List ℕ → Event
+still_event commands text = record { before = commands; after = commands; text = text }
+
 -- the places whose look it changes, in reading order, each with its look after it
 abbrev pub event_changes : Event → List (Place × Look)
 event_changes e = changes_between (grid e.before) (grid e.after)

@@ -15,7 +15,7 @@ use Rattle.cept_parser.specs.Items.{is_refusal, closed_items, commands}
 use Rattle.cept_words.specs.Lines.{number, words}
 pub use Rattle.cept_editor.specs.declared.undo_redo.UndoRedo.{UndoRedo as UndoRedoKind}
 pub use Rattle.cept_editor.specs.declared.undo_redo.UndoRedo.TheVariants.{Undo, Redo}
-use Rattle.cept_editor.specs.Table.{Row, row_of, Alone, One, Two, Four, Text, Raw, Undo as UndoRow, Redo as RedoRow}
+use Rattle.cept_editor.specs.Table.{Row, row_of, Alone, One, Two, Four, Text, Raw, UndoRedo as UndoRedoRow}
 
 -- what an edit line does: it is an undo or a redo, or an edit of these commands
 pub data Step : Type 0 where
@@ -70,15 +70,13 @@ four fits command (u ∷ v ∷ w ∷ x ∷ []) =
     ranged (fits a b c d) (command a b c d)))))
 four fits command _ = Err reasons.WrongCount
 
--- a sign of a text: 2/0 to 7/14
-abbrev pub is_sign : ℕ → Bool
-is_sign a = is_between 0x20 0x7E a
-
--- the signs after the word and one space, at least one: G0 is locked to the left bytes, and then each sign is written
+-- the signs after the word and one space, at least one, each of 2/0 to 7/14: G0 is locked to the left bytes, and then each
+-- sign is written
 abbrev pub text : List ℕ → Result Step LineReason
 text [] = Err reasons.WrongCount
 text (a ∷ more) =
-    if list_all is_sign (a ∷ more) then Ok (Edit (LockLeft 0 ∷ map Graphic (a ∷ more))) else Err reasons.BadText
+    if list_all (is_between 0x20 0x7E) (a ∷ more) then Ok (Edit (LockLeft 0 ∷ map Graphic (a ∷ more)))
+    else Err reasons.BadText
 
 -- the byte of two hexadecimal digits, the high one first
 abbrev pub byte_of : Option ℕ → Option ℕ → Option ℕ
@@ -93,14 +91,10 @@ hex_bytes (high ∷ low ∷ more) =
     option_map (λ read. read.0 ∷ read.1)
     (option_zip (byte_of (hex_digit_value high) (hex_digit_value low)) (hex_bytes more))
 
--- an item of the bytes is refused
-abbrev pub bytes_have_refusal : List ℕ → Bool
-bytes_have_refusal bytes = list_any (λ i. is_refusal i.what) (closed_items bytes)
-
--- the edit of at least one byte, read by a parser from its start to its end
+-- the edit of at least one byte, read by a parser from its start to its end, which refuses none of its items
 abbrev pub bytes_step : Option (List ℕ) → Result Step LineReason
 bytes_step (Some (a ∷ more)) =
-    if bytes_have_refusal (a ∷ more) then Err reasons.BadBytes else Ok (Edit (commands (a ∷ more)))
+    if list_any (λ i. is_refusal i.what) (closed_items (a ∷ more)) then Err reasons.BadBytes else Ok (Edit (commands (a ∷ more)))
 bytes_step _ = Err reasons.BadHex
 
 -- the edit of one word of hexadecimal digits
@@ -117,8 +111,7 @@ step_by (Some (Two fits command)) more rest = two fits command more
 step_by (Some (Four fits command)) more rest = four fits command more
 step_by (Some Text) more rest = text rest
 step_by (Some Raw) more rest = raw more
-step_by (Some UndoRow) more rest = alone (UndoRedo Undo) more
-step_by (Some RedoRow) more rest = alone (UndoRedo Redo) more
+step_by (Some (UndoRedoRow which)) more rest = alone (UndoRedo which) more
 
 -- what an edit line means, cut into words
 abbrev pub step_of_words : List (List ℕ) → List ℕ → Result Step LineReason

@@ -7,6 +7,7 @@ use Rattle.cept_codes.specs.Command.{IsValidCommand}
 use Rattle.cept_codes.specs.declared.command.Command.{Command}
 use Rattle.cept_codes.specs.declared.command.Command.TheVariants as commands
 use Rattle.cept_codes.specs.declared.item.Item.{Item}
+use Rattle.cept_parser.specs.Bytes.{is_between}
 use Rattle.cept_parser.specs.Context.{start_context}
 use Rattle.cept_parser.specs.Items.{closing_items, commands_of, commands as commands_of_bytes}
 use Rattle.cept_parser.specs.State.{ParserState, reading_with, parser_after, pending_reading}
@@ -15,7 +16,7 @@ use Rattle.cept_editor.specs.declared.brief.Brief.TheVariants as briefs
 use Rattle.cept_editor.specs.declared.order.Order.{Order}
 use Rattle.cept_editor.specs.declared.order.Order.TheVariants as orders
 use Rattle.cept_editor.specs.declared.places.Span.{Span}
-use Rattle.cept_editor.specs.Meaning.{Step, UndoRedo, Edit, HasCommand, is_sign, hex_bytes}
+use Rattle.cept_editor.specs.Meaning.{Step, UndoRedo, Edit, HasCommand, hex_bytes}
 
 -- the command of a brief one
 abbrev pub command_of : Brief → Command
@@ -79,6 +80,6 @@ pub record AreSoundDigits (digits : List ℕ) : Type 0 where
 abbrev pub IsSoundOrder : List ℕ → Span → Order → Type 0
 IsSoundOrder bytes place (orders.UndoRedo which) = Unit {0}
 IsSoundOrder bytes place (orders.One brief) = IsValidCommand (command_of brief)
-IsSoundOrder bytes place (orders.Text span) = (span ≡ place) × (list_all is_sign bytes ≡ true)
+IsSoundOrder bytes place (orders.Text span) = (span ≡ place) × (list_all (is_between 0x20 0x7E) bytes ≡ true)
 IsSoundOrder bytes place (orders.Raw span) =
     (span ≡ place) × AreSoundDigits bytes × HasCommand (order_step bytes (orders.Raw span))

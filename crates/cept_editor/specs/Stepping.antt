@@ -9,7 +9,7 @@ use Rattle.cept_profile.specs.State.{State}
 use Rattle.cept_report.specs.Text.{change_lines, nothing_line}
 use Rattle.cept_editor.specs.declared.editor.Done.{Done}
 use Rattle.cept_editor.specs.declared.editor.Done.TheVariants as answers
-use Rattle.cept_editor.specs.Events.{Event}
+use Rattle.cept_editor.specs.Events.{Event, still_event}
 use Rattle.cept_editor.specs.Kept.{KeptEdits, finds_nothing, kept_after, remaining, EditorState, StandsAfter}
 use Rattle.cept_editor.specs.Made.{Output, AreMade, AreCutOff}
 use Rattle.cept_editor.specs.Meaning.{Step, UndoRedoKind, UndoRedo, Undo, Redo, Edit}
@@ -28,19 +28,12 @@ edit_events listed line earlier commands =
     map (λ numbered. event_from listed line (earlier ++ take numbered.0 commands)
     (earlier ++ take (numbered.0 + 1) commands)) (enumerate_from 0 commands)
 
--- an undo or a redo that finds nothing: it changes nothing
-abbrev pub nothing_event : Bool → ℕ → List Command → Event
-nothing_event listed line commands = record {
-  before = commands;
-  after = commands;
-  text = if listed then nothing_line line else [];
-}
-
--- the events of an edit line, after a page and these kept edits: one for each command, or one for an undo or a redo
+-- the events of an edit line, after a page and these kept edits: one for each command, or one for an undo or a redo, which
+-- changes nothing where it finds nothing
 abbrev pub line_events : Bool → ℕ → List Command → KeptEdits → Step → List Event
 line_events listed line page k (Edit commands) = edit_events listed line (remaining page k) commands
 line_events listed line page k (UndoRedo which) =
-    (if finds_nothing which k then nothing_event listed line (remaining page k)
+    (if finds_nothing which k then still_event (remaining page k) (if listed then nothing_line line else [])
     else event_from listed line (remaining page k) (remaining page (kept_after k (UndoRedo which)))) ∷ []
 
 -- the states to which undo or redo leads, one after the other

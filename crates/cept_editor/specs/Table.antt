@@ -6,8 +6,10 @@ use Rattle.cept_codes.specs.declared.command.Command.{Command}
 use Rattle.cept_codes.specs.declared.command.Command.TheVariants as commands
 use Rattle.cept_codes.specs.declared.command.C1Set.TheVariants.{Serial, Parallel}
 use Rattle.cept_parser.specs.Bytes.{is_between}
+use Rattle.cept_editor.specs.declared.undo_redo.UndoRedo.{UndoRedo as UndoRedoKind}
+use Rattle.cept_editor.specs.declared.undo_redo.UndoRedo.TheVariants.{Undo, Redo}
 
--- what a word asks of its line: no word more, one, two or four numbers in range, a text, hexadecimal digits, undo, redo
+-- what a word asks of its line: no word more, one, two or four numbers in range, a text, hexadecimal digits, undo or redo
 pub data Row : Type 0 where
   Alone : Command → Row
   One : (ℕ → Bool) → (ℕ → Command) → Row
@@ -15,8 +17,7 @@ pub data Row : Type 0 where
   Four : (ℕ → ℕ → ℕ → ℕ → Bool) → (ℕ → ℕ → ℕ → ℕ → Command) → Row
   Text : Row
   Raw : Row
-  Undo : Row
-  Redo : Row
+  UndoRedo : UndoRedoKind → Row
 
 -- a row and a column of the screen
 abbrev pub is_place : ℕ → ℕ → Bool
@@ -34,10 +35,6 @@ is_screen_c1 n = is_c1 n && not (is_between 12 15 n)
 abbrev pub is_colour : ℕ → ℕ → ℕ → ℕ → Bool
 is_colour n r g b = is_between 0 31 n && is_between 0 15 r && is_between 0 15 g && is_between 0 15 b
 
--- the command that gives an entry its colour
-abbrev pub entry_command : ℕ → ℕ → ℕ → ℕ → Command
-entry_command n r g b = commands.Entry n (record { r = r; g = g; b = b })
-
 -- the first and the last row of an area
 abbrev pub is_area : ℕ → ℕ → Bool
 is_area a b = is_between 1 24 a && is_between 1 24 b && nat_le a b
@@ -53,7 +50,7 @@ row_of word =
     if bytes_eq word (codes "row") then Some (One is_c1 commands.FullRow) else
     if bytes_eq word (codes "screen") then Some (One is_screen_c1 commands.FullScreen) else
     if bytes_eq word (codes "table") then Some (One (is_between 0 3) commands.Table) else
-    if bytes_eq word (codes "colour") then Some (Four is_colour entry_command) else
+    if bytes_eq word (codes "colour") then Some (Four is_colour (λ n r g b. commands.Entry n (record { r = r; g = g; b = b }))) else
     if bytes_eq word (codes "repeat") then Some (One (is_between 0 63) commands.Repeat) else
     if bytes_eq word (codes "erase") then Some (Alone commands.Cancel) else
     if bytes_eq word (codes "clear") then Some (Alone commands.Clear) else
@@ -73,6 +70,6 @@ row_of word =
     if bytes_eq word (codes "explicit") then Some (Alone (commands.Implicit false)) else
     if bytes_eq word (codes "revision") then Some (One (is_between 1 2) commands.Revision) else
     if bytes_eq word (codes "raw") then Some Raw else
-    if bytes_eq word (codes "undo") then Some Undo else
-    if bytes_eq word (codes "redo") then Some Redo else
+    if bytes_eq word (codes "undo") then Some (UndoRedo Undo) else
+    if bytes_eq word (codes "redo") then Some (UndoRedo Redo) else
     None

@@ -1,8 +1,8 @@
-ghost use Rattle.std.specs.Prelude.{◌≡◌, ◌∷◌, [], true, MatchOption, IfSome};
-ghost use Rattle.std.specs.List.{AllByRecursion, list_all};
+ghost use Rattle.std.specs.Prelude.{◌≡◌, ◌∷◌, [], MatchOption, IfSome};
+ghost use Rattle.std.specs.List.{AllByRecursion};
 ghost use Rattle.cept_codes.specs.Command.{IsValidCommand};
 ghost use Rattle.cept_editor.specs.Edit.{edit_step};
-ghost use Rattle.cept_editor.specs.Meaning.{is_sign, IsValidStep, HasCommand};
+ghost use Rattle.cept_editor.specs.Meaning.{IsValidStep, HasCommand};
 ghost use Rattle.cept_editor.specs.Places.{step_at, IsPlacedOrder};
 
 use crate::decoding::Decoding;

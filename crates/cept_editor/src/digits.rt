@@ -1,8 +1,8 @@
 ghost use Rattle.std.specs.Prelude.{◌≡◌, ◌||◌, ◌<◌, ◌^◌, length, true, is_some, IsSome};
 ghost use Rattle.std.specs.List.{list_any};
-ghost use Rattle.cept_parser.specs.Items.{is_refusal};
+ghost use Rattle.cept_parser.specs.Items.{closed_items, is_refusal};
 ghost use Rattle.hex.specs.Hex.{hex_digit_value};
-ghost use Rattle.cept_editor.specs.Meaning.{byte_of, hex_bytes, bytes_have_refusal};
+ghost use Rattle.cept_editor.specs.Meaning.{byte_of, hex_bytes};
 ghost use Rattle.cept_editor.specs.Order.{raw_bytes, AreSoundDigits};
 
 use cept_codes::{Item, Said};
@@ -68,7 +68,8 @@ fn or_refused(refused: bool, items: &[Item]) -> bool
 pub(crate) fn has_refusal(digits: &[u8]) -> bool
     requires few { length digits.now < 2 ^ 31 }
     requires readable { IsSome (hex_bytes digits.now) }
-    ensures refused { result ≡ bytes_have_refusal (raw_bytes digits.now) }
+    ensures refused { result
+        ≡ list_any (λ i. is_refusal i.what) (closed_items (raw_bytes digits.now)) }
     ensures sound { AreSoundDigits digits.now }
 {
     let mut parser = Parser::new();

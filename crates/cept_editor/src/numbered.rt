@@ -8,7 +8,6 @@ ghost use Rattle.cept_words.specs.Words.{words_after, bytes_after};
 ghost use Rattle.cept_editor.specs.Meaning.{one, two, four};
 ghost use Rattle.cept_editor.specs.inside.Order.{ReadsPlain};
 ghost use Rattle.cept_editor.specs.Table.{is_place, is_c1, is_screen_c1, is_colour, is_area};
-ghost use Rattle.cept_editor.specs.Table.{entry_command};
 
 use crate::brief::Brief;
 use crate::number::{four_numbers, is_between, one_number, two_numbers};
@@ -119,7 +118,8 @@ pub(crate) fn table(rest: Option<&[u8]>) -> Result<Order, LineReason>
 /// `colour N R G B`: the colour of an entry.
 pub(crate) fn colour(rest: Option<&[u8]>) -> Result<Order, LineReason>
     ensures { ReadsPlain (bytes_after rest.entry) result
-        (four is_colour entry_command (words_after rest.entry)) }
+        (four is_colour (λ n r g b. commands.Entry n (record { r = r; g = g; b = b }))
+        (words_after rest.entry)) }
 {
     let (entry, r, g, b) = four_numbers(rest)?;
     let rgb = Rgb { r, g, b };

@@ -1,8 +1,9 @@
 ghost use Rattle.std.specs.Prelude.{◌≡◌, ◌∷◌, ℕ, List, [], true, IfOk};
 ghost use Rattle.std.specs.List.{list_all};
 ghost use Rattle.cept_codes.specs.Command.{IsValidCommand};
+ghost use Rattle.cept_parser.specs.Bytes.{is_between};
 ghost use Rattle.cept_words.specs.Words.{words_after, bytes_after};
-ghost use Rattle.cept_editor.specs.Meaning.{UndoRedo as UndoRedoOf, Edit, ranged, alone, is_sign};
+ghost use Rattle.cept_editor.specs.Meaning.{UndoRedo as UndoRedoOf, Edit, ranged, alone};
 ghost use Rattle.cept_editor.specs.Meaning.{text, raw, bytes_step, hex_bytes};
 ghost use Rattle.cept_editor.specs.Order.{command_of, order_step};
 ghost use Rattle.cept_editor.specs.inside.Order.{step_meant, IsPlainOrder};
@@ -73,7 +74,7 @@ pub(crate) fn undo_redo(which: UndoRedo, rest: Option<&[u8]>) -> Result<Order, L
 
 /// Whether these are signs of a text: 2/0 to 7/14.
 fn are_signs(text: &[u8]) -> bool
-    ensures { result ≡ list_all is_sign text.now }
+    ensures { result ≡ list_all (is_between 0x20 0x7E) text.now }
 {
     let mut left = text;
     while let [byte, more @ ..] = left {

@@ -18,7 +18,7 @@ use Rattle.cept_codes.specs.declared.item.Said.{Said}
 use Rattle.cept_codes.specs.declared.item.Said.TheVariants as said
 use Rattle.cept_codes.specs.declared.look.Paint.TheVariants as paints
 use Rattle.cept_codes.specs.declared.look.Rgb.{Rgb}
-use Rattle.cept_report.specs.Text.{form_text, paint_text, reason_name, set_letter, spaced}
+use Rattle.cept_report.specs.Text.{form_text, named_reason, paint_text, set_letter, spaced}
 use Rattle.cept_listing.specs.Listing.{c1_set_text, c1_text, code_text, command_text, item_line, said_text}
 use Rattle.cept_listing.specs.Names.{designation_names, flash_names, name_of, parallel_names, serial_names}
 
@@ -230,8 +230,8 @@ command_short (commands.FullDefaults s) v = omega (arith, set_short (codes "FULL
 command_short (commands.ControlDefaults s) v = omega (arith, set_short (codes "CONTROL-DEFAULTS") s)
 command_short (commands.Revision r) v = omega (arith, one (codes "REVISION") r (revision_few r v))
 
-reason_short : (reason : Reason) → length (reason_name reason) ≤ 17
-unfolding reason_name
+reason_short : (reason : Reason) → length (named_reason reason).1 ≤ 17
+unfolding named_reason
 reason_short reasons.UnassignedControl = omega arith
 reason_short reasons.UnknownEscape = omega arith
 reason_short reasons.UnknownCsi = omega arith

@@ -10,7 +10,7 @@ use Rattle.cept_codes.specs.declared.item.Said.{Said}
 use Rattle.cept_codes.specs.declared.item.Said.TheVariants as said
 use Rattle.cept_codes.specs.declared.look.Pattern.{Pattern}
 use Rattle.cept_listing.specs.Listing.{command_text, item_line, said_text}
-use Rattle.cept_report.specs.Text.{reason_name}
+use Rattle.cept_report.specs.Text.{named_reason}
 
 -- places, lengths and what items say, each with its line
 abbrev listed : List (ℕ × ℕ × Said × List ℕ) → Type 0
@@ -146,5 +146,5 @@ refusals : listed (
     ∷ (6, 1, said.Refused reasons.BadParameter, codes "6 1 REFUSED BadParameter\n")
     ∷ (57, 4, said.Refused reasons.Interrupted, codes "57 4 REFUSED Interrupted\n")
     ∷ (16777215, 99, said.Refused reasons.Truncated, codes "16777215 99 REFUSED Truncated\n") ∷ [])
-unfolding said_text reason_name digits
+unfolding said_text named_reason digits
 refusals = refl

@@ -13,7 +13,7 @@ use Rattle.cept_codes.specs.declared.item.Said.{Said}
 use Rattle.cept_codes.specs.declared.item.Said.TheVariants as said
 use Rattle.cept_codes.specs.declared.look.Paint.TheVariants as paints
 use Rattle.cept_report.specs.Ascii.{ascii}
-use Rattle.cept_report.specs.Text.{form_text, line_of, paint_text, reason_name, set_letter, spaced}
+use Rattle.cept_report.specs.Text.{form_text, line_of, named_reason, paint_text, set_letter, spaced}
 use Rattle.cept_listing.specs.Names.{designation_names, flash_names, name_of, parallel_names, serial_names}
 
 -- a code by its column and row
@@ -87,7 +87,7 @@ command_text (commands.Revision r) = spaced (codes "REVISION" ∷ decimal r ∷ 
 -- what an item says: a command, or that it is refused, and why
 unfoldable pub said_text : Said → List ℕ
 said_text (said.Command command) = command_text command
-said_text (said.Refused reason) = spaced (codes "REFUSED" ∷ reason_name reason ∷ [])
+said_text (said.Refused reason) = spaced (codes "REFUSED" ∷ (named_reason reason).1 ∷ [])
 
 -- the line of an item
 abbrev pub item_line : Item → List ℕ

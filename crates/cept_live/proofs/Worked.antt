@@ -12,7 +12,7 @@ use Rattle.cept_codes.specs.Look.{black_paint}
 use Rattle.cept_control.specs.Numbers.{bit, flash_number, set_number}
 use Rattle.cept_live.specs.Notices.{Change, Refusal, colour_of, no_colour, no_pixels, notice_of, pixels_of}
 use Rattle.cept_live.specs.Notices.{sign_of}
-use Rattle.cept_report.specs.Text.{reason_number}
+use Rattle.cept_report.specs.Text.{named_reason}
 
 -- ---- sets: 0 P, 1 S, 2 M, 3 N, 4 D
 
@@ -56,32 +56,32 @@ third_fast_is_6 = refl
 
 -- ---- reasons: 1 to 7
 
-unassigned_control_is_1 : reason_number reasons.UnassignedControl ≡ 1
-unfolding reason_number
+unassigned_control_is_1 : (named_reason reasons.UnassignedControl).0 ≡ 1
+unfolding named_reason
 unassigned_control_is_1 = refl
 
-unknown_escape_is_2 : reason_number reasons.UnknownEscape ≡ 2
-unfolding reason_number
+unknown_escape_is_2 : (named_reason reasons.UnknownEscape).0 ≡ 2
+unfolding named_reason
 unknown_escape_is_2 = refl
 
-unknown_csi_is_3 : reason_number reasons.UnknownCsi ≡ 3
-unfolding reason_number
+unknown_csi_is_3 : (named_reason reasons.UnknownCsi).0 ≡ 3
+unfolding named_reason
 unknown_csi_is_3 = refl
 
-unknown_unit_is_4 : reason_number reasons.UnknownUnit ≡ 4
-unfolding reason_number
+unknown_unit_is_4 : (named_reason reasons.UnknownUnit).0 ≡ 4
+unfolding named_reason
 unknown_unit_is_4 = refl
 
-bad_parameter_is_5 : reason_number reasons.BadParameter ≡ 5
-unfolding reason_number
+bad_parameter_is_5 : (named_reason reasons.BadParameter).0 ≡ 5
+unfolding named_reason
 bad_parameter_is_5 = refl
 
-interrupted_is_6 : reason_number reasons.Interrupted ≡ 6
-unfolding reason_number
+interrupted_is_6 : (named_reason reasons.Interrupted).0 ≡ 6
+unfolding named_reason
 interrupted_is_6 = refl
 
-truncated_is_7 : reason_number reasons.Truncated ≡ 7
-unfolding reason_number
+truncated_is_7 : (named_reason reasons.Truncated).0 ≡ 7
+unfolding named_reason
 truncated_is_7 = refl
 
 -- ---- flags and colours
@@ -197,5 +197,5 @@ refusal_is_told : notice_of (Refusal 7 2 reasons.UnknownEscape) ≡ record {
   boxed = 0;
   pattern = no_pixels;
 }
-unfolding reason_number
+unfolding named_reason
 refusal_is_told = refl

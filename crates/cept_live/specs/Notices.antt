@@ -15,7 +15,7 @@ use Rattle.cept_codes.specs.Place.{Place}
 use Rattle.cept_control.specs.Numbers.{bit, flash_number, set_number}
 use Rattle.cept_parser.specs.Items.{commands_of}
 use Rattle.cept_profile.specs.Changes.{changes}
-use Rattle.cept_report.specs.Text.{reason_number}
+use Rattle.cept_report.specs.Text.{named_reason}
 use Rattle.cept_live.specs.declared.notice.Colour.{Colour}
 use Rattle.cept_live.specs.declared.notice.Notice.{Notice}
 use Rattle.cept_live.specs.declared.notice.Pixels.{Pixels}
@@ -112,7 +112,7 @@ refusal_notice at length reason = record {
   at = at;
   kind = 2;
   length = length;
-  reason = reason_number reason;
+  reason = (named_reason reason).0;
   row = 0;
   column = 0;
   sign = record { kind = 0; set = 0; code = 0; accent = 0 };

@@ -3,7 +3,7 @@ ghost use Rattle.std.specs.Prelude.{◌≡◌, length};
 ghost use Rattle.cept_codes.specs.Look.{IsValidLook, IsValidShape};
 ghost use Rattle.cept_live.specs.Notices.{change_notice, colour_of};
 ghost use Rattle.cept_live.specs.Notices.{colours_of, pixels_of};
-ghost use Rattle.cept_report.specs.Text.{reason_number};
+ghost use Rattle.cept_report.specs.Text.{named_reason};
 ghost use Rattle.cept_live.specs.Notices.{refusal_notice, sign_of};
 
 use cept_codes::{Look, Paint, Pos, Reason, Shape};
@@ -91,9 +91,9 @@ const NO_PIXELS: Pixels = Pixels {
     colours: [NO_COLOUR; 16],
 };
 
-#[tactic(auto, unfolding(cept_report::specs::Text::reason_number))]
+#[tactic(auto, unfolding(cept_report::specs::Text::named_reason))]
 fn reason_number(reason: Reason) -> u8
-    ensures { result ≡ reason_number reason }
+    ensures { result ≡ (named_reason reason).0 }
 {
     match reason {
         Reason::UnassignedControl => 1,

@@ -22,12 +22,12 @@ use Rattle.cept_codes.specs.Table.{list_by_index, table}
 use Rattle.cept_codes.proofs.Laws.{list_by_index-entry, same_indexed, set-entry}
 use Rattle.cept_colours.specs.Colours.{ColourTables, default_colours}
 use Rattle.cept_codes.specs.declared.command.Up.{Up}
-use Rattle.cept_profile.specs.Cells.{cell_back, cells_after, cells_after_all, shifted}
+use Rattle.cept_profile.specs.Cells.{cells_after, cells_after_all, shifted}
 use Rattle.cept_profile.specs.PageParts.{dclut_in, dclut_list_after, list_of_colours, list_of_dclut, list_of_rows}
 use Rattle.cept_profile.specs.PageParts.{paint_in, paints_after, part_after_all, row_pen_in, row_pens_after}
 use Rattle.cept_profile.specs.PageParts.{list_of_codes, pattern_in, patterns_after, row_pen_after, screen_pen_after}
 use Rattle.cept_profile.specs.Pens.{pen_with}
-use Rattle.cept_profile.specs.State.{Page, page, page_after}
+use Rattle.cept_profile.specs.State.{Page, page_after, state}
 use Rattle.cept_profile.specs.Valid.{IsValidPage}
 use Rattle.cept_profile.proofs.Laws.{row_pen_after-carried}
 use Rattle.cept_page.specs.Drawn.{IsDrawn}
@@ -190,8 +190,7 @@ pub page_start : (cells : List (List Cell)) (t : ColourTables) (patterns : List 
       paints = t.paints;
       dclut = t.dclut;
       patterns = patterns;
-    } in p) ≡ page []
-unfolding cell_back
+    } in p) ≡ (state []).page
 page_start cells t patterns e et ep i = record {
   cells = e i;
   row_pens = row_pens_unset i;

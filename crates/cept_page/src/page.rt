@@ -6,7 +6,7 @@ ghost use Rattle.cept_codes.specs.Stroke.{IsValidStroke};
 ghost use Rattle.cept_profile.specs.NotedStrokes.{with_stroke, with_strokes};
 ghost use Rattle.cept_profile.specs.OldValues.{page_unwound};
 ghost use Rattle.cept_profile.specs.PageParts.{row_pen_in};
-ghost use Rattle.cept_profile.specs.State.{page, page_after};
+ghost use Rattle.cept_profile.specs.State.{page_after, state};
 ghost use Rattle.cept_profile.specs.Valid.{IsValidPage};
 ghost use Rattle.cept_delta.specs.Exchanged.{page_exchanged};
 ghost use Rattle.cept_page.specs.Behind.{page_behind};
@@ -61,7 +61,7 @@ impl Model for Page {
 impl Page {
     /// The page at the start.
     pub fn new(alloc: Global) -> Result<Page, NoMemory>
-        ensures { IfOk result (λ made. made ≡ page []) }
+        ensures { IfOk result (λ made. made ≡ (state []).page) }
     {
         let grid = Grid::new(alloc)?;
         let patterns = Patterns::new(alloc)?;

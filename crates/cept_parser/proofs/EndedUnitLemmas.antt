@@ -1,5 +1,5 @@
 -- A whole unit before a byte that doesn't fit after it, and at the end of the input.
-use Rattle.std.proofs.Common.{◌≡◌, ℕ, ◌+◌, Bool, true, false, ◌||◌, cond, List, [], ◌∷◌, ◌++◌, length, Some, None}
+use Rattle.std.proofs.Common.{◌≡◌, ℕ, ◌+◌, Bool, true, false, ◌||◌, cond, List, [], ◌∷◌, ◌++◌, length, map, Some, None}
 use Rattle.std.proofs.Common.{refl, sym, ap, ◌∙◌, subst, inl, inr}
 use Rattle.std.proofs.lemmas.Bool.{cases_Bool}
 use Rattle.std.proofs.lemmas.List.{append_assoc, append-nil, drop_at}
@@ -11,11 +11,13 @@ use Rattle.cept_parser.specs.declared.fit.Fit.TheVariants.{Misfit, Open, Whole, 
 use Rattle.cept_parser.specs.Bytes.{is_longer}
 use Rattle.cept_parser.specs.inside.Fit.{word}
 use Rattle.cept_parser.specs.Grammar.{unit, fits, grows}
-use Rattle.cept_parser.specs.Items.{Front, Reading, front_of, front, reading_with_items, waiting_reading, reading_at}
-use Rattle.cept_parser.specs.Items.{said_at_end, closing_items, is_refusal}
+use Rattle.cept_parser.specs.Items.{Front, Reading, front, reading_with_items, waiting_reading, reading_at}
+use Rattle.cept_parser.proofs.LongestBeginningLemmas.{front_of}
+use Rattle.cept_parser.specs.Items.{closing_items, is_refusal}
+use Rattle.cept_parser.specs.inside.Waits.{said_at_end}
 use Rattle.cept_parser.specs.ReadsAs.{said_with_end, said_from}
 use Rattle.cept_parser.proofs.GrammarLemmas.{unit_none, whole_fits}
-use Rattle.cept_parser.proofs.LongestBeginningLemmas.{front_ended, front_append_more}
+use Rattle.cept_parser.proofs.LongestBeginningLemmas.{front_ended, front_append_more, closing_is}
 use Rattle.cept_parser.proofs.OneByteMoreLemmas.{read_nil, read_unit, read_as_longer}
 use Rattle.cept_parser.proofs.ReadingInPartsLemmas.{read_step}
 
@@ -61,9 +63,10 @@ said_none x at = ap said_with_end (read_nil x at)
 -- what pending bytes say at the end that are whole
 said_waiting : (x : Context) (at : ℕ) (u : List ℕ) (o : Outcome) → unit x u ≡ Some o
     → said_with_end (waiting_reading x at u) ≡ o.said ∷ []
-unfolding closing_items said_at_end
+unfolding said_at_end
 said_waiting x at [] o e = let n : unit x [] ≡ None = unit_none x in absurd cc
-said_waiting x at (a ∷ u) o e = rw e refl
+said_waiting x at (a ∷ u) o e =
+    ap (map (λ i. i.what)) (closing_is (waiting_reading x at (a ∷ u))) ∙ ap (λ w. said_at_end w ∷ []) e
 
 pub said_ended : (x : Context) (at c : ℕ) (u s : List ℕ) (o : Outcome) → unit x u ≡ Some o
     → fits x (u ++ c ∷ []) ≡ false

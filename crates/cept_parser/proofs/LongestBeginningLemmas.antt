@@ -1,16 +1,38 @@
 -- The longest beginning that fits, and the first item.
 use Rattle.std.proofs.Common.{◌≡◌, ℕ, zero, suc, ◌+◌, ◌<◌, ◌≤◌, zero-le, Bool, true, false, not, ◌&&◌, ◌||◌, cond, eqb}
-use Rattle.std.proofs.Common.{List, [], ◌∷◌, ◌++◌, length, get_or, take, Option, Some, None, refl, sym, ◌∙◌, subst}
+use Rattle.std.proofs.Common.{List, [], ◌∷◌, ◌++◌, length, get_or, take, Option, Some, None, refl, sym, ap, ◌∙◌, subst}
 use Rattle.std.proofs.Common.{arith, inl, inr}
 use Rattle.std.proofs.Math.Seq.{take-suc}
 use Rattle.std.proofs.Math.Nat.{le_of_suc-le}
 use Rattle.std.proofs.lemmas.List.{take-append-le, take_all, length-append, append_assoc, append-nil}
-use Rattle.std.proofs.lemmas.Bool.{cases_lt, cond_both, eq-eqb, ne_eqb, eqb-true, both_ways}
+use Rattle.std.proofs.lemmas.Bool.{cases_lt, cond_both, eq-eqb, ne_eqb, eqb-true, both_ways, false_from_ne_true}
 use Rattle.cept_parser.specs.declared.context.Context.{Context}
+use Rattle.cept_codes.specs.declared.item.Item.{Item}
+use Rattle.cept_codes.specs.declared.item.Reason.TheVariants.{Interrupted, Truncated}
+use Rattle.cept_codes.specs.declared.item.Said.{Said}
+use Rattle.cept_codes.specs.declared.item.Said.TheVariants.{Refused}
+use Rattle.cept_parser.specs.declared.context.Mode.TheVariants.{Text}
 use Rattle.cept_parser.specs.declared.context.Outcome.{Outcome}
-use Rattle.cept_parser.specs.Grammar.{unit, fits, grows}
-use Rattle.cept_parser.specs.Items.{longest_beginning_within, longest_beginning, Front, is_refusal, front_of, front}
+use Rattle.cept_parser.specs.declared.fit.Fit.{Fit}
+use Rattle.cept_parser.specs.declared.fit.Fit.TheVariants.{Misfit, Open, Whole, Longer}
+use Rattle.cept_parser.specs.Bytes.{outcome, is_empty, is_whole, is_longer}
+use Rattle.cept_parser.specs.Context.{with_mode}
+use Rattle.cept_parser.specs.Grammar.{standing, unit, fits, grows}
+use Rattle.cept_parser.specs.Items.{longest_beginning_within, Front, is_refusal, front, Reading, closing_items}
+use Rattle.cept_parser.specs.inside.Waits.{said_at_end}
 use Rattle.cept_parser.proofs.GrammarLemmas.{fits_front, fits_none, unit_none, fits_one, whole_ends, refused_ends}
+
+-- the length of the longest beginning that fits
+unfoldable pub longest_beginning : Context → List ℕ → ℕ
+longest_beginning x b = longest_beginning_within x b (length b)
+
+-- the first item, where the longest beginning that fits has this length, is all of the bytes or not, grows or not,
+-- and wholly is this
+unfoldable pub front_of : Context → ℕ → Bool → Bool → Option Outcome → Option Front
+front_of x size all more (Some c) =
+    cond (is_refusal c.said || not (all && more)) (Some (record { said = c.said; size = size; next = c.next })) None
+front_of x size all more None =
+    cond all None (Some (record { said = Refused Interrupted; size = size; next = with_mode x Text }))
 
 -- n is the length of the longest beginning of b that fits
 pub record IsLongest (x : Context) (b : List ℕ) (n : ℕ) : Type 0 where
@@ -32,7 +54,7 @@ take_fits x b n (suc m) l w h =
 
 longest_within_is : (x : Context) (b : List ℕ) (n : ℕ) → n ≤ length b
     → (n < length b → fits x (take (suc n) b) ≡ false) → IsLongest x b (longest_beginning_within x b n)
-unfolding longest_beginning_within
+unfolding longest_beginning_within fits
 longest_within_is x b zero w e = record { within = zero-le; fit = fits_none x; end = e }
 longest_within_is x b (suc n) w e =
     cond_both (fits x (take (suc n) b)) (suc n) (longest_beginning_within x b n) (λ k. IsLongest x b k)
@@ -56,13 +78,52 @@ longest_unique x b n m p q =
     let other : n ≤ m = not_longer x b m n q p in
     omega arith
 
+or_true : (b : Bool) → (b || true) ≡ true
+or_true true = refl
+or_true false = refl
+
+-- by the word for how bytes stand: what grows is no refusal
+front_by : (x : Context) (n : ℕ) (all : Bool) (w : Fit) (o : Outcome)
+    → (is_longer w ≡ true → is_refusal o.said ≡ false) → (let p = cond (is_whole w) o (outcome x Text (Refused Interrupted)) in
+    cond (all && (not (is_whole w) || is_longer w)) None (Some (record { said = p.said; size = n; next = p.next }))
+    ≡ front_of x n all (is_longer w) (cond (is_whole w) (Some o) None))
+unfolding front_of
+front_by x n true Misfit o h = refl
+front_by x n false Misfit o h = refl
+front_by x n true Open o h = refl
+front_by x n false Open o h = refl
+front_by x n true Whole o h = rw (or_true (is_refusal o.said)) refl
+front_by x n false Whole o h = rw (or_true (is_refusal o.said)) refl
+front_by x n true Longer o h = rw (h refl) refl
+front_by x n false Longer o h = rw (or_true (is_refusal o.said)) refl
+
+longer_whole : (w : Fit) → is_longer w ≡ true → is_whole w ≡ true
+longer_whole Misfit h = absurd cc
+longer_whole Open h = absurd cc
+longer_whole Whole h = absurd cc
+longer_whole Longer h = refl
+
+longer_unit : (x : Context) (u : List ℕ) → is_longer (standing x u).fit ≡ true → unit x u ≡ Some (standing x u).outcome
+unfolding unit
+longer_unit x u l = rw (longer_whole (standing x u).fit l) refl
+
+longer_grows : (x : Context) (u : List ℕ) → is_longer (standing x u).fit ≡ grows x u
+unfolding grows
+longer_grows x u = refl
+
+longer_says : (x : Context) (u : List ℕ) → is_longer (standing x u).fit ≡ true
+    → is_refusal (standing x u).outcome.said ≡ false
+longer_says x u l =
+    false_from_ne_true _ (λ r.
+    both_ways _ (refused_ends x u (standing x u).outcome (longer_unit x u l) r) (sym (longer_grows x u) ∙ l))
+
 -- the first item by the longest beginning
 pub front_is : (x : Context) (b : List ℕ) (n : ℕ) (u : List ℕ) (all : Bool) → IsLongest x b n → take n b ≡ u
     → eqb n (length b) ≡ all → front x b ≡ front_of x n all (grows x u) (unit x u)
-unfolding front
+unfolding front longest_beginning unit grows
 front_is x b n u all p t a =
-    let e : longest_beginning x b ≡ n = longest_unique x b _ n (longest_is x b) p in
-    rw (e, t, a) refl
+    let e : longest_beginning_within x b (length b) ≡ n = longest_unique x b _ n (longest_is x b) p in
+    rw (e, t, a) (front_by x n all (standing x u).fit (standing x u).outcome (longer_says x u))
 
 -- what is all of the bytes and closes, doesn't grow, and closes also where more bytes come
 closes_go : (refused more : Bool) (g f : Front) → (refused ≡ true → more ≡ false)
@@ -240,3 +301,24 @@ waits_fits x b e =
     ∙ e) in
     let same : n ≡ length b = eqb-true n (length b) all in
     longest_fits x b n p (omega arith)
+
+empty_is : (u : List ℕ) → eqb (length u) 0 ≡ is_empty u
+empty_is [] = refl
+empty_is (a ∷ u) = ne_eqb _ _ (λ e. omega arith)
+
+-- what pending bytes say at the end by what they wholly are
+end_is : (w : Fit) (o : Outcome) → cond (is_whole w) o.said (Refused Truncated) ≡ said_at_end (cond (is_whole w) (Some o) None)
+unfolding said_at_end
+end_is Misfit o = refl
+end_is Open o = refl
+end_is Whole o = refl
+end_is Longer o = refl
+
+pub closing_is : (r : Reading) → closing_items r
+    ≡ cond (is_empty r.pending) [] (record { at = r.at; len = length r.pending; what = said_at_end (unit r.context r.pending) } ∷ [])
+unfolding closing_items unit
+closing_is r =
+    let s = standing r.context r.pending in
+    let by : Bool → Said → List Item = λ b said. cond b [] (record { at = r.at; len = length r.pending; what = said } ∷ []) in
+    ap (λ b. by b (cond (is_whole s.fit) s.outcome.said (Refused Truncated))) (empty_is r.pending)
+    ∙ ap (by (is_empty r.pending)) (end_is s.fit s.outcome)

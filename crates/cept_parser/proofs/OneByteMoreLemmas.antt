@@ -14,8 +14,9 @@ use Rattle.cept_parser.specs.declared.fit.Fit.TheVariants.{Misfit, Open, Whole, 
 use Rattle.cept_parser.specs.declared.fit.Fit.{Fit}
 use Rattle.cept_parser.specs.Bytes.{is_fit, is_whole, is_longer, Standing}
 use Rattle.cept_parser.specs.Grammar.{standing, unit, fits, grows}
-use Rattle.cept_parser.specs.Items.{Reading, Front, is_refusal, front_of, front, reading_with_items, waiting_reading, reading_at}
-use Rattle.cept_parser.specs.Items.{said_at_end}
+use Rattle.cept_parser.specs.Items.{Reading, Front, is_refusal, front, reading_with_items, waiting_reading, reading_at}
+use Rattle.cept_parser.proofs.LongestBeginningLemmas.{front_of}
+use Rattle.cept_parser.specs.inside.Waits.{said_at_end}
 use Rattle.cept_parser.specs.Fit.{fit, fit_by, closes, Answer, answer}
 use Rattle.cept_parser.specs.inside.Fit.{word}
 use Rattle.cept_parser.specs.inside.Waits.{outcome_at_misfit, cut_item}

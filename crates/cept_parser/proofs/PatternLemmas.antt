@@ -6,8 +6,7 @@ use Rattle.cept_codes.specs.declared.command.Form.{Form}
 use Rattle.cept_codes.specs.Command.{IsValidForm}
 use Rattle.cept_codes.specs.declared.item.Said.{Said}
 use Rattle.cept_codes.specs.Look.{is_pattern_size}
-use Rattle.cept_drcs.specs.Cut.{cut}
-use Rattle.cept_drcs.specs.Block.{part_after_bytes}
+use Rattle.cept_drcs.specs.Cut.{blocks}
 use Rattle.cept_drcs.specs.Unit.{pattern_grows as unit_grows}
 use Rattle.cept_drcs.proofs.Laws.{starts, grows_by_last}
 use Rattle.cept_parser.specs.declared.context.Mode.{Mode}
@@ -19,7 +18,8 @@ use Rattle.cept_parser.specs.declared.fit.Fit.TheVariants.{Misfit, Open, Whole, 
 use Rattle.cept_parser.specs.Bytes.{is_longer, Standing}
 use Rattle.cept_parser.specs.Fit.{closes, Answer, answer}
 use Rattle.cept_parser.specs.inside.Fit.{word}
-use Rattle.cept_parser.specs.Runs.{starts_pattern, with_pattern, table_entry, run_unit}
+use Rattle.cept_parser.specs.Runs.{with_pattern, table_entry, run_unit}
+use Rattle.cept_parser.specs.Fit.{starts_pattern}
 use Rattle.cept_parser.specs.Units.{us_unit}
 use Rattle.cept_parser.specs.Grammar.{repetition, csi_unit, standing}
 use Rattle.cept_parser.specs.Waits.{begins_in, in_pattern}
@@ -33,7 +33,7 @@ some_line : (w h : ℕ) → is_pattern_size w h ≡ true → ltb 0 h ≡ true
 some_line w h s = search rules
 
 first_grows : (f : Form) → IsValidForm f → unit_grows f (0x30 ∷ []) ≡ true
-unfolding cut part_after_bytes
+unfolding blocks
 first_grows f v =
     grows_by_last f (0x30 ∷ []) [] (record { plane = 0; bytes = [] }) (starts f 0x30 v) refl
     ∙ rw (some_line f.w f.h v.size) refl

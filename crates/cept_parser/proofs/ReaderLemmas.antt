@@ -16,7 +16,8 @@ use Rattle.cept_parser.specs.declared.reader.Reader.{Reader}
 use Rattle.cept_parser.specs.declared.fit.Fit.TheVariants.{Misfit, Open, Whole, Longer}
 use Rattle.cept_parser.specs.Bytes.{is_whole, is_longer, Standing}
 use Rattle.cept_parser.specs.Grammar.{standing, unit, fits}
-use Rattle.cept_parser.specs.Items.{Reading, reading_at, reading_with_items, said_at_end}
+use Rattle.cept_parser.specs.Items.{Reading, reading_at, reading_with_items}
+use Rattle.cept_parser.specs.inside.Waits.{said_at_end}
 use Rattle.cept_parser.specs.inside.Fit.{word}
 use Rattle.cept_parser.specs.declared.context.Mode.TheVariants.{DrcsRun}
 use Rattle.cept_parser.specs.Context.{with_mode}

@@ -10,7 +10,8 @@ use Rattle.cept_parser.specs.declared.context.Outcome.{Outcome}
 use Rattle.cept_parser.specs.declared.reader.Reader.{Reader}
 use Rattle.cept_parser.specs.Context.{start_context}
 use Rattle.cept_parser.specs.Grammar.{unit, grows}
-use Rattle.cept_parser.specs.Items.{longest_beginning, Front, front, Reading, reading_at, reading, waiting_reading}
+use Rattle.cept_parser.specs.Items.{Front, front, Reading, reading_at, reading, waiting_reading}
+use Rattle.cept_parser.proofs.LongestBeginningLemmas.{longest_beginning}
 use Rattle.cept_parser.specs.State.{ParserState, Leads}
 use Rattle.cept_parser.specs.Valid.{IsValidContext, AreBytes}
 use Rattle.cept_parser.specs.Waits.{IsWaiting, HasLeft}

@@ -23,8 +23,8 @@ use Rattle.cept_parser.specs.declared.context.Mode.TheVariants.{Text, TableRun, 
 use Rattle.cept_parser.specs.declared.fit.Fit.TheVariants.{Whole, Longer}
 use Rattle.cept_parser.specs.Bytes.{is_plain, is_digit, two_digits}
 use Rattle.cept_parser.specs.Controls.{one_byte}
-use Rattle.cept_parser.specs.Csi.{csi, csi_2, area}
-use Rattle.cept_parser.specs.Escape.{escape, escape_2, escape_3}
+use Rattle.cept_parser.specs.Csi.{csi, area}
+use Rattle.cept_parser.specs.Escape.{escape}
 use Rattle.cept_parser.specs.Grammar.{standing, csi_unit, repetition}
 use Rattle.cept_parser.specs.Runs.{bit, colour, table_entry}
 use Rattle.cept_parser.specs.Spelling.{spelling, context_after, may_grow, tens_byte, ones_byte, colour_byte}
@@ -39,7 +39,7 @@ Stands x c = standing x (spelling c)
 -- ---- cells, rows and the screen
 
 pub table_spelled : (x : Context) (k : ℕ) → k ≤ 3 → Stands x (command.Table k)
-unfolding csi_unit csi csi_2 spelling context_after
+unfolding csi_unit csi spelling context_after
 table_spelled x k h = grind (arith, nat_tests)
 
 pub c1_spelled : (x : Context) (n : ℕ) → IsC1 n → Stands x (command.C1 n)
@@ -47,15 +47,15 @@ unfolding one_byte spelling context_after
 c1_spelled x n h = let l = h.0 in let m = h.1 in grind (arith, nat_tests)
 
 pub flash_spelled : (x : Context) (k : ℕ) → k ≤ 6 → Stands x (command.FlashMode k)
-unfolding csi_unit csi csi_2 spelling context_after
+unfolding csi_unit csi spelling context_after
 flash_spelled x k h = grind (arith, nat_tests)
 
 pub screen_spelled : (x : Context) (n : ℕ) → IsScreenC1 n → Stands x (command.FullScreen n)
-unfolding escape escape_3 spelling context_after
+unfolding escape spelling context_after
 screen_spelled x n h = let l = h.0.0 in let m = h.0.1 in let o = h.1 in grind (arith, nat_tests)
 
 pub row_spelled : (x : Context) (n : ℕ) → IsC1 n → Stands x (command.FullRow n)
-unfolding escape escape_3 spelling context_after
+unfolding escape spelling context_after
 row_spelled x n h = let l = h.0 in let m = h.1 in grind (arith, nat_tests)
 
 pub position_spelled : (x : Context) (r c : ℕ) → OnScreen r c → Stands x (command.Position r c)
@@ -84,7 +84,7 @@ unfolding one_byte spelling context_after
 lock_spelled x g h = grind (arith, nat_tests)
 
 pub designate_spelled : (x : Context) (g : ℕ) (set : SetId) → g ≤ 3 → Stands x (command.Designate g set)
-unfolding escape escape_2 escape_3 spelling context_after
+unfolding escape spelling context_after
 designate_spelled x g P h = grind (arith, nat_tests)
 designate_spelled x g S h = grind (arith, nat_tests)
 designate_spelled x g M h = grind (arith, nat_tests)
@@ -100,12 +100,12 @@ unfolding spelling context_after
 graphic_spelled x b e l m = let p : is_plain b ≡ true = grind (arith, nat_tests) in rw (p, e) refl
 
 pub protect_spelled : (x : Context) (on : Bool) → Stands x (command.Protect on)
-unfolding csi_unit csi csi_2 spelling context_after
+unfolding csi_unit csi spelling context_after
 protect_spelled x true = refl
 protect_spelled x false = refl
 
 pub implicit_spelled : (x : Context) (on : Bool) → Stands x (command.Implicit on)
-unfolding csi_unit csi csi_2 spelling context_after
+unfolding csi_unit csi spelling context_after
 implicit_spelled x true = refl
 implicit_spelled x false = refl
 
@@ -135,7 +135,7 @@ revision_spelled x revision (inl e) = subst (λ (n : ℕ). Stands x (command.Rev
 revision_spelled x revision (inr e) = subst (λ (n : ℕ). Stands x (command.Revision n)) (sym e) refl
 
 pub c1_set_spelled : (x : Context) (set : C1Set) → Stands x (command.DesignateC1 set)
-unfolding escape escape_2 spelling context_after
+unfolding escape spelling context_after
 c1_set_spelled x c1_set.Serial = refl
 c1_set_spelled x c1_set.Parallel = refl
 

@@ -8,7 +8,7 @@ use Rattle.cept_parser.specs.declared.context.Context.{Context}
 use Rattle.cept_parser.specs.declared.context.Outcome.{Outcome}
 use Rattle.cept_parser.specs.declared.fit.Fit.TheVariants.{Misfit, Open, Whole, Longer}
 use Rattle.cept_parser.specs.Bytes.{is_between, is_plain, contains, is_fit, is_whole, Standing, Table, end, complete}
-use Rattle.cept_parser.specs.Bytes.{then_plain, with_sequence, optional, with_options}
+use Rattle.cept_parser.specs.Bytes.{then_plain, sequence, optional, saying}
 use Rattle.cept_parser.specs.Items.{is_refusal}
 
 -- they fit, or don't
@@ -148,12 +148,12 @@ final_plain : (final a : ℕ) → 0x20 ≤ final → is_plain a ≡ false → is
 final_plain final a l p = grind (arith, nat_tests)
 
 pub sequence_table : (final n m : ℕ) (k : List ℕ → Outcome) → 0x20 ≤ final → n < m
-    → IsTable m (with_sequence final n k)
+    → IsTable m (saying (sequence final n) k)
 sequence_table final n zero k l s = absurd (omega arith)
 sequence_table final zero (suc m) k l s =
-    begun_table m (with_sequence final zero k) refl (λ a p. rw p (end_table m (λ u. k (a ∷ u)))) (λ a u p. rw p refl)
+    begun_table m (saying (sequence final zero) k) refl (λ a p. rw p (end_table m (λ u. k (a ∷ u)))) (λ a u p. rw p refl)
 sequence_table final (suc n) (suc m) k l s =
-    begun_table m (with_sequence final (suc n) k) refl (λ a p. elim (cases_Bool (is_between final 0x7F a)) [
+    begun_table m (saying (sequence final (suc n)) k) refl (λ a p. elim (cases_Bool (is_between final 0x7F a)) [
       | inl e ↦ rw e (end_table m (λ u. k (a ∷ u)))
       | inr e ↦ rw (e, p) (sequence_table final n m (λ u. k (a ∷ u)) l (omega arith))
     ]) (λ a u p. rw (final_plain final a l p, p) refl)
@@ -233,7 +233,7 @@ optional_breaks (p ∷ parts) (a ∷ u) c h q =
 
 options_laws : (parts : List (List ℕ)) (k : List ℕ → Outcome) → are_parts parts ≡ true
     → ((v : List ℕ) → is_refusal (k v).said ≡ false) → (u : List ℕ)
-    → Laws (with_options parts k u) (λ c. with_options parts k (u ++ c ∷ []))
+    → Laws (saying (optional parts) k u) (λ c. saying (optional parts) k (u ++ c ∷ []))
 options_laws [] k h n u = (end_table 0 k).laws u
 options_laws (p ∷ parts) k h n [] =
     let q = part_of p parts h in
@@ -263,7 +263,7 @@ options_short (p ∷ parts) (a ∷ u) h =
     ]
 
 pub options_table : (n : ℕ) (parts : List (List ℕ)) (k : List ℕ → Outcome) → are_parts parts ≡ true
-    → length parts ≤ n → ((v : List ℕ) → is_refusal (k v).said ≡ false) → IsTable n (with_options parts k)
+    → length parts ≤ n → ((v : List ℕ) → is_refusal (k v).said ≡ false) → IsTable n (saying (optional parts) k)
 options_table n parts k h l m =
     record {
       first = none_fits parts;

@@ -5,8 +5,8 @@ use Rattle.std.proofs.lemmas.Bool.{and_parts, cases_Bool}
 use Rattle.std.proofs.lemmas.Bool.Decides.{nat_tests}
 use Rattle.cept_codes.specs.declared.command.Form.{Form}
 use Rattle.cept_codes.specs.Command.{IsValidForm}
-use Rattle.cept_drcs.specs.Block.{may_come}
-use Rattle.cept_drcs.specs.Cut.{is_opener, cut}
+use Rattle.cept_drcs.specs.Adding.{may_come}
+use Rattle.cept_drcs.specs.Cut.{is_opener, blocks}
 use Rattle.cept_drcs.specs.Loading.{Loading, fresh, takes, loading_after, loads, room}
 use Rattle.cept_drcs.specs.Unit.{is_pattern, are_blocks}
 use Rattle.cept_drcs.proofs.Laws.{beginning, longer as longer_pattern, no_longer, hundred, unit_loads}
@@ -18,9 +18,12 @@ use Rattle.cept_parser.specs.declared.fit.Fit.{Fit}
 use Rattle.cept_parser.specs.declared.fit.Fit.TheVariants.{Misfit, Open, Whole, Longer}
 use Rattle.cept_parser.specs.Bytes.{is_between, is_plain, is_digit, is_fit, is_whole, Standing, Table, outcome}
 use Rattle.cept_parser.specs.Bytes.{complete}
-use Rattle.cept_parser.specs.Units.{drcs_parts, drcs_header, drcs_unit, colour_parts, colour_header, colour_start}
-use Rattle.cept_parser.specs.Units.{colour_unit, format_parts, format, service_break, service_unit, us_position, us_unit}
-use Rattle.cept_parser.specs.Runs.{table_entry, run_unit, with_pattern, starts_pattern}
+use Rattle.cept_parser.specs.Units.{drcs_parts, drcs_header, drcs_unit, colour_header, colour_start}
+use Rattle.cept_parser.specs.inside.Fit.{colour_parts}
+use Rattle.cept_parser.specs.Units.{colour_unit, format, service_break, service_unit, us_position, us_unit}
+use Rattle.cept_parser.specs.inside.Fit.{format_parts}
+use Rattle.cept_parser.specs.Runs.{table_entry, run_unit, with_pattern}
+use Rattle.cept_parser.specs.Fit.{starts_pattern}
 use Rattle.cept_parser.specs.Grammar.{csi_unit, after_escape, repetition, standing}
 use Rattle.cept_parser.specs.Escape.{escape}
 use Rattle.cept_parser.proofs.ChoiceLemmas.{each_test, each_table}
@@ -161,7 +164,7 @@ loads_breaks l (a ∷ u) c h = both_go (takes l a) (loads_breaks (loading_after 
 
 -- a form of which there is a pattern has a plane
 first_planes : (f : Form) (a : ℕ) → is_pattern f (a ∷ []) ≡ true → ltb 0 f.planes ≡ true
-unfolding is_pattern cut are_blocks
+unfolding is_pattern blocks are_blocks
 first_planes f a h = grind (arith, nat_tests)
 
 pattern_breaks : (f : Form) (a : ℕ) (u : List ℕ) (c : ℕ) → is_plain c ≡ false → is_pattern f (a ∷ []) ≡ true

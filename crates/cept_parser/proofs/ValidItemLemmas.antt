@@ -9,8 +9,9 @@ use Rattle.cept_codes.specs.declared.item.Said.TheVariants.{Command as Says, Ref
 use Rattle.cept_parser.specs.declared.context.Context.{Context}
 use Rattle.cept_parser.specs.declared.context.Outcome.{Outcome}
 use Rattle.cept_parser.specs.Grammar.{unit, fits, grows}
-use Rattle.cept_parser.specs.Items.{is_refusal, longest_beginning, Front, front_of, front, Reading, reading_at}
-use Rattle.cept_parser.specs.Items.{said_at_end}
+use Rattle.cept_parser.specs.Items.{is_refusal, Front, front, Reading, reading_at}
+use Rattle.cept_parser.proofs.LongestBeginningLemmas.{longest_beginning, front_of}
+use Rattle.cept_parser.specs.inside.Waits.{said_at_end}
 use Rattle.cept_parser.specs.Valid.{IsValidContext, AreBytes, greatest_length, AreValid, AreMeasured}
 use Rattle.cept_parser.specs.inside.Waits.{outcome_at_misfit}
 use Rattle.cept_parser.proofs.GrammarLemmas.{open_small, refused_small}

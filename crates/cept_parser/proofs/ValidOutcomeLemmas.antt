@@ -18,12 +18,13 @@ use Rattle.cept_parser.specs.Context.{with_mode, start_context}
 use Rattle.cept_parser.specs.Bytes.{is_between, is_plain, is_digit, two_digits, is_row, contains}
 use Rattle.cept_parser.specs.Bytes.{outcome, is_whole, Standing, Table, complete, then_plain}
 use Rattle.cept_parser.specs.Controls.{one_byte}
-use Rattle.cept_parser.specs.Escape.{is_c1_final, escape_1, escape_2, escape_3, escape}
-use Rattle.cept_parser.specs.Csi.{csi_2, area, csi}
+use Rattle.cept_parser.specs.Escape.{is_c1_final, escape}
+use Rattle.cept_parser.specs.Csi.{area, csi}
 use Rattle.cept_parser.specs.Units.{us_position, drcs_form, drcs_header, drcs_unit, colour_header, last_place}
 use Rattle.cept_parser.specs.Units.{run_from, colour_start, colour_unit, format, service_break, service_unit, us_unit}
-use Rattle.cept_parser.specs.Runs.{misplacement, bit, colour_part, colour, table_entry, run_unit}
-use Rattle.cept_parser.specs.Runs.{starts_pattern}
+use Rattle.cept_parser.specs.Runs.{bit, colour_part, colour, table_entry, run_unit}
+use Rattle.cept_parser.specs.inside.Fit.{misplacement}
+use Rattle.cept_parser.specs.Fit.{starts_pattern}
 use Rattle.cept_parser.specs.Grammar.{repetition, csi_unit, after_escape, standing, unit, fits}
 use Rattle.cept_parser.specs.Valid.{IsValidContext, IsValidMode, AreBytes}
 use Rattle.cept_parser.proofs.ChoiceLemmas.{each_test, each_table}
@@ -116,8 +117,8 @@ screen_final f h k =
     let above : 12 ≤ f - 0x40 → 15 < f - 0x40 = λ l. screen_above f k l in
     (c1_final f h, elim (cases_lt (f - 0x40) 12) [ inl l ↦ inl l | inr l ↦ inr (above l) ])
 
-escape_1_valid : (f : ℕ) → IsValidSaid (escape_1 f)
-unfolding escape_1
+escape_1_valid : (f : ℕ) → IsValidSaid (escape (f ∷ []))
+unfolding escape
 escape_1_valid f =
     each_test Fine (is_c1_final f) (λ h. c1_final f h) (λ _.
     each_test Fine (eqb f 0x6E) (λ _. omega arith) (λ _.
@@ -129,8 +130,8 @@ escape_1_valid f =
 set_number : (i : ℕ) → is_between 0x28 0x2B i ≡ true → i - 0x28 ≤ 3
 set_number i h = grind (arith, nat_tests)
 
-escape_2_valid : (i f : ℕ) → IsValidSaid (escape_2 i f)
-unfolding escape_2
+escape_2_valid : (i f : ℕ) → IsValidSaid (escape (i ∷ f ∷ []))
+unfolding escape
 escape_2_valid i f =
     each_test Fine (eqb i 0x22 && eqb f 0x40) (λ _. tt) (λ _.
     each_test Fine (eqb i 0x22 && eqb f 0x41) (λ _. tt) (λ _.
@@ -144,8 +145,8 @@ no_size : (a b c : Bool) → (a && b) ≡ false → (a && c) ≡ true → b ≡ 
 no_size true b c h k = h
 no_size false b c h k = absurd cc
 
-escape_3_valid : (i j f : ℕ) → IsValidSaid (escape_3 i j f)
-unfolding escape_3
+escape_3_valid : (i j f : ℕ) → IsValidSaid (escape (i ∷ j ∷ f ∷ []))
+unfolding escape
 escape_3_valid i j f =
     each_test Fine (eqb i 0x23 && eqb j 0x20 && is_between 0x4C 0x4F f) (λ _. tt) (λ n.
     each_test Fine (eqb i 0x23 && eqb j 0x20 && is_c1_final f)
@@ -169,8 +170,8 @@ table_number p h = grind (arith, nat_tests)
 flash_number : (p : ℕ) → is_between 0x30 0x36 p ≡ true → p - 0x30 ≤ 6
 flash_number p h = grind (arith, nat_tests)
 
-csi_2_valid : (p f : ℕ) → IsValidSaid (csi_2 p f)
-unfolding csi_2
+csi_2_valid : (p f : ℕ) → IsValidSaid (csi (p ∷ f ∷ []))
+unfolding csi
 csi_2_valid p f =
     each_test Fine (is_between 0x30 0x33 p && eqb f 0x40) (λ h. table_number p (and_parts _ _ h).0) (λ _.
     each_test Fine (is_between 0x30 0x36 p && eqb f 0x41) (λ h. flash_number p (and_parts _ _ h).0) (λ _.

@@ -1,15 +1,18 @@
 -- Bytes that wait.
 use Rattle.std.proofs.Common.{◌≡◌, ℕ, ◌+◌, ◌-◌, ◌<◌, ◌≤◌, Bool, true, false, Some, None, inl, inr}
-use Rattle.std.proofs.Common.{List, [], ◌∷◌, ◌++◌, length, refl, sym, ap, ◌∙◌, arith}
+use Rattle.std.proofs.Common.{List, [], ◌∷◌, ◌++◌, length, cond, refl, sym, ap, subst, ◌∙◌, arith}
 use Rattle.std.proofs.lemmas.List.{length-append}
 use Rattle.std.proofs.lemmas.Bool.{cases_Bool}
+use Rattle.cept_codes.specs.declared.item.Item.{Item}
 use Rattle.cept_parser.specs.declared.context.Context.{Context}
 use Rattle.cept_parser.specs.declared.context.Outcome.{Outcome}
 use Rattle.cept_parser.specs.Context.{start_context}
 use Rattle.cept_parser.specs.Bytes.{is_empty}
 use Rattle.cept_parser.specs.Grammar.{unit, fits, grows}
-use Rattle.cept_parser.specs.Items.{front_of, front, Reading, reading_with_items, reading_at, reading}
-use Rattle.cept_parser.specs.Items.{items, closing_items, said_at_end}
+use Rattle.cept_parser.specs.Items.{front, Reading, reading_with_items, reading_at, reading}
+use Rattle.cept_parser.proofs.LongestBeginningLemmas.{front_of}
+use Rattle.cept_parser.specs.Items.{items, closing_items}
+use Rattle.cept_parser.specs.inside.Waits.{said_at_end}
 use Rattle.cept_parser.specs.State.{ParserState, Leads, reading_with, parser_after, pending_reading}
 use Rattle.cept_parser.specs.Beginning.{IsContinued}
 use Rattle.cept_parser.specs.Valid.{AreValid, AreMeasured}
@@ -17,7 +20,7 @@ use Rattle.cept_parser.specs.Waits.{Waits}
 use Rattle.cept_parser.proofs.GrammarLemmas.{plain_fits}
 use Rattle.cept_parser.proofs.ValidOutcomeLemmas.{start_valid, fits_hundred}
 use Rattle.cept_parser.proofs.GrammarLemmas.{grows_continued}
-use Rattle.cept_parser.proofs.LongestBeginningLemmas.{waits_fits, front_none, front_fitting}
+use Rattle.cept_parser.proofs.LongestBeginningLemmas.{waits_fits, front_none, front_fitting, closing_is}
 use Rattle.cept_parser.proofs.ReadingInPartsLemmas.{read_append, read_place, read_waits}
 use Rattle.cept_parser.proofs.OneByteMoreLemmas.{closes_now}
 use Rattle.cept_parser.proofs.ValidItemLemmas.{read_sound, bytes_more, end_sound, cases_outcome}
@@ -80,21 +83,29 @@ reading_waits x place at p c w e l =
 pub closing_sound : (x : Context) (place at : ℕ) (p : List ℕ) → Waits x place p → let r : Reading =
     record { items = []; context = x; at = at; pending = p } in
     AreValid (closing_items r) × AreMeasured (closing_items r)
-unfolding closing_items
-closing_sound x place at [] w = (tt, tt)
-closing_sound x place at (a ∷ p) w =
-    let s = end_sound x (a ∷ p) w.context w.bytes (waits_fits x (a ∷ p) w.waits) in
-    ((s.0, tt), ((omega arith, s.1), tt))
+closing_sound x place at p w =
+    let r : Reading = record { items = []; context = x; at = at; pending = p } in
+    subst (λ (is : List Item). AreValid is × AreMeasured is) (sym (closing_is r)) (sound p w)
+  where
+    sound : (p : List ℕ) → Waits x place p
+        → (let is = cond {A = List Item} (is_empty p) [] (record { at = at; len = length p; what = said_at_end (unit x p) } ∷ []) in
+        AreValid is × AreMeasured is)
+    sound [] w = (tt, tt)
+    sound (a ∷ p) w =
+        let s = end_sound x (a ∷ p) w.context w.bytes (waits_fits x (a ∷ p) w.waits) in
+        ((s.0, tt), ((omega arith, s.1), tt))
 
 -- nothing is added where nothing is pending
 pub closing_none : (r : Reading) → length r.pending ≡ 0 → closing_items r ≡ []
-unfolding closing_items
-closing_none r e = rw (empty_length r.pending e) refl
+closing_none r e =
+    let item : Item = record { at = r.at; len = length r.pending; what = said_at_end (unit r.context r.pending) } in
+    closing_is r ∙ ap (λ b. cond b [] (item ∷ [])) (empty_length r.pending e)
 
 pub closing_one : (r : Reading) → 0 < length r.pending
     → closing_items r ≡ record { at = r.at; len = length r.pending; what = said_at_end (unit r.context r.pending) } ∷ []
-unfolding closing_items
-closing_one r e = rw (some_length r.pending e) refl
+closing_one r e =
+    let item : Item = record { at = r.at; len = length r.pending; what = said_at_end (unit r.context r.pending) } in
+    closing_is r ∙ ap (λ b. cond b [] (item ∷ [])) (some_length r.pending e)
 
 -- at the end of the input nothing waits any more
 pub ended_waits : (x : Context) (place : ℕ) (p : List ℕ) → Waits x place p → Waits x place []

@@ -1,19 +1,20 @@
 -- A written pattern reads as itself: its planes are blocks, and the lines of each block are its pixels.
 use Rattle.std.proofs.Common.{◌≡◌, ℕ, zero, suc, ◌+◌, ◌-◌, ◌*◌, ◌/◌, ◌%◌, ◌^◌, ◌<◌, ◌≤◌, true, false, ◌&&◌, ◌||◌, not}
-use Rattle.std.proofs.Common.{eqb, ltb, List, [], ◌∷◌, ◌++◌, length, map, slice_index}
+use Rattle.std.proofs.Common.{eqb, ltb, List, [], ◌∷◌, ◌++◌, length, map, slice_index, take}
 use Rattle.std.proofs.Common.{refl, sym, ap, ◌∙◌, subst, arith, inl, inr, IsTrue}
 use Rattle.std.proofs.lemmas.Bool.{cases_Bool, eqb-true, lt-ltb, le-leb}
 use Rattle.std.proofs.lemmas.Bool.Decides.{nat_tests}
 use Rattle.std.proofs.lemmas.List.{append_assoc, append-nil, length-append}
 use Rattle.std.proofs.lemmas.List.FromFn.{length-map-range_with_len, get_or-map-range_with_len}
-use Rattle.std.specs.List.{flat_map, range_with_len}
+use Rattle.std.specs.List.{before_first, flat_map, position_or_len, range_with_len}
 use Rattle.cept_codes.specs.declared.command.Form.{Form}
 use Rattle.cept_codes.specs.declared.look.Pattern.{Pattern}
 use Rattle.cept_codes.specs.Command.{IsValidForm}
 use Rattle.cept_codes.specs.Look.{pixel, is_pattern_size, is_plane_count, IsValidPattern}
-use Rattle.cept_drcs.specs.Block.{has_pixels, six, BlockPart, blank, whole, adds, may_come, part_after_byte, part_after_bytes}
+use Rattle.cept_drcs.specs.Block.{has_pixels, six, BlockPart, blank, with_byte}
+use Rattle.cept_drcs.specs.Adding.{whole, part_after_byte, part_after_bytes}
 use Rattle.cept_drcs.specs.Block.{all_may_come, block_lines}
-use Rattle.cept_drcs.specs.Cut.{Block, Cut, is_opener, plane_of, cut}
+use Rattle.cept_drcs.specs.Cut.{Block, blocks, is_opener}
 use Rattle.cept_drcs.specs.Unit.{is_pattern, are_blocks, pattern_grows, pattern, plane_lines}
 use Rattle.cept_drcs.proofs.Laws.{pixel_drawn, unit_valid, grows_by_last}
 use Rattle.cept_parser.specs.Spelling.{form_of, half_line_byte, line_bytes, plane_bytes, pattern_bytes}
@@ -30,23 +31,20 @@ half_carries t p y x = carries (half_line_byte t p y x) (half_within t p y x)
 -- a byte with pixels that is a line of six
 narrow_draw : (f : Form) (ls : List ℕ) (a : ℕ) → eqb f.w 6 ≡ true → has_pixels a ≡ true
     → part_after_byte f (whole ls) a ≡ whole (ls ++ six a ∷ [])
-unfolding adds
+unfolding with_byte
 narrow_draw f ls a n h = rw (h, n) refl
 
 -- two that are a line of twelve
 wide_draw : (f : Form) (ls : List ℕ) (a b : ℕ) → eqb f.w 6 ≡ false → has_pixels a ≡ true → has_pixels b ≡ true
     → part_after_byte f (part_after_byte f (whole ls) a) b ≡ whole (ls ++ (six a + 64 * six b) ∷ [])
-unfolding adds
-wide_draw f ls a b n h k = rw (h, n, k, append-nil) refl
+unfolding with_byte
+wide_draw f ls a b n h k = rw (h, n, k) refl
 
 -- and between them no line is added
 half_draw : (f : Form) (ls : List ℕ) (a : ℕ) → eqb f.w 6 ≡ false → has_pixels a ≡ true
     → (part_after_byte f (whole ls) a).lines ≡ ls
-unfolding adds
-half_draw f ls a n h = rw (h, n) (append-nil ls)
-
-comes : (n h a : ℕ) → n < h → has_pixels a ≡ true → may_come (h - n) a ≡ true
-comes n h a l p = let z : ltb 0 (h - n) ≡ true = grind (arith, nat_tests) in rw (z, p) refl
+unfolding with_byte
+half_draw f ls a n h = rw (h, n) refl
 
 -- bytes of a block are drawn, and lead from these lines to those
 record Draws (f : Form) (ls u ms : List ℕ) : Type 0 where
@@ -77,22 +75,23 @@ wide_number t p y n = rw n refl
 
 narrow_draws : (f : Form) (ls : List ℕ) (a : ℕ) → eqb f.w 6 ≡ true → length ls < f.h → has_pixels a ≡ true
     → Draws f ls (a ∷ []) (ls ++ six a ∷ [])
-unfolding part_after_bytes all_may_come
+unfolding all_may_come
 narrow_draws f ls a n l h =
     record {
-      may = λ v. rw (comes (length ls) f.h a l h) (ap (λ (d : BlockPart). all_may_come f d v) (narrow_draw f ls a n h));
+      may = λ v. rw (lt-ltb (length ls) f.h l, h) (ap (λ (d : BlockPart). all_may_come f d v) (narrow_draw f ls a n h));
       lead = λ v. ap (λ (d : BlockPart). part_after_bytes f d v) (narrow_draw f ls a n h);
     }
 
 wide_draws : (f : Form) (ls : List ℕ) (a b : ℕ) → eqb f.w 6 ≡ false → length ls < f.h → has_pixels a ≡ true
     → has_pixels b ≡ true → Draws f ls (a ∷ b ∷ []) (ls ++ (six a + 64 * six b) ∷ [])
-unfolding part_after_bytes all_may_come
+unfolding all_may_come
 wide_draws f ls a b n l h k =
-    let again : may_come (f.h - length (part_after_byte f (whole ls) a).lines) b ≡ true =
-    ap (λ (m : List ℕ). may_come (f.h - length m) b) (half_draw f ls a n h) ∙ comes (length ls) f.h b l k in
+    let left = lt-ltb (length ls) f.h l in
+    let again : ltb (length (part_after_byte f (whole ls) a).lines) f.h ≡ true =
+    ap (λ (m : List ℕ). ltb (length m) f.h) (half_draw f ls a n h) ∙ left in
     record {
       may = λ v.
-          rw (comes (length ls) f.h a l h, again) (ap (λ (d : BlockPart). all_may_come f d v) (wide_draw f ls a b n h k));
+          rw (left, h, again, k) (ap (λ (d : BlockPart). all_may_come f d v) (wide_draw f ls a b n h k));
       lead = λ v. ap (λ (d : BlockPart). part_after_bytes f d v) (wide_draw f ls a b n h k);
     }
 
@@ -153,7 +152,6 @@ block_is t p s =
 
 block_drawn : (t : Pattern) (p : ℕ) → IsTrue (is_pattern_size t.w t.h)
     → part_after_bytes (form_of t) blank (block_of t p).bytes ≡ whole (line_numbers t p 0 t.h)
-unfolding part_after_bytes
 block_drawn t p s =
     ap (part_after_bytes (form_of t) blank) (sym (append-nil (lines_bytes t p 0 t.h))) ∙ (block_draws t p s).lead []
 
@@ -166,10 +164,28 @@ block_lines_are t p s = rw (block_drawn t p s) (append-nil (line_numbers t p 0 t
 no_opener : (a : ℕ) → has_pixels a ≡ true → is_opener a ≡ false
 no_opener a h = grind (arith, nat_tests)
 
+-- the bytes before the first opener, and then the blocks
+record Cut : Type 0 where
+  pub front : List ℕ
+  pub blocks : List Block
+
+unfoldable cut : List ℕ → Cut
+cut u = record { front = before_first is_opener u; blocks = blocks u }
+
+cut_blocks : (u : List ℕ) → blocks u ≡ (cut u).blocks
+unfolding cut
+cut_blocks u = refl
+
+one_more : (n : ℕ) → 1 + n ≡ suc n
+one_more n = omega arith
+
 cut_pixels : (a : ℕ) (u : List ℕ) → has_pixels a ≡ true
     → cut (a ∷ u) ≡ record { front = a ∷ (cut u).front; blocks = (cut u).blocks }
-unfolding cut
-cut_pixels a u h = rw (no_opener a h) refl
+unfolding cut blocks
+cut_pixels a u h =
+    let n : ℕ = position_or_len is_opener u in
+    let front : take (1 + n) (a ∷ u) ≡ a ∷ take n u = ap (λ k. take k (a ∷ u)) (one_more n) in
+    rw (no_opener a h) (ap (λ (b : List ℕ). record { front = b; blocks = blocks u }) front)
 
 -- bytes stand in the block that is open
 abbrev StandsBefore : List ℕ → Type 0
@@ -197,10 +213,10 @@ lines_cut t p (suc n) k s u =
 
 cut_opener : (p : ℕ) (u : List ℕ) → p < 4 → cut ((0x30 + p) ∷ u)
     ≡ record { front = []; blocks = record { plane = p; bytes = (cut u).front } ∷ (cut u).blocks }
-unfolding cut
+unfolding cut blocks
 cut_opener p u l =
     let o : is_opener (0x30 + p) ≡ true = grind (arith, nat_tests) in
-    let e : plane_of (0x30 + p) ≡ p = omega arith in
+    let e : (0x30 + p) - 0x30 ≡ p = omega arith in
     rw (o, e) refl
 
 -- the blocks of planes, n of them from plane k on
@@ -224,7 +240,7 @@ plane_cut t p u bs s l e =
 
 planes_cut : (t : Pattern) (n k : ℕ) → IsTrue (is_pattern_size t.w t.h) → k + n ≤ 4
     → cut (planes_bytes t k n) ≡ record { front = []; blocks = blocks_of t k n }
-unfolding cut
+unfolding cut blocks
 planes_cut t zero k s l = refl
 planes_cut t (suc n) k s l =
     plane_cut t k (planes_bytes t (k + 1) n) (blocks_of t (k + 1) n) s (omega arith)
@@ -273,6 +289,9 @@ pattern_cut t v =
     let few = four_at_most t.planes v.planes in
     planes_cut t t.planes 0 v.size (omega arith)
 
+pattern_blocks : (t : Pattern) → IsValidPattern t → blocks (pattern_bytes t) ≡ blocks_of t 0 t.planes
+pattern_blocks t v = cut_blocks (pattern_bytes t) ∙ ap (λ (c : Cut). c.blocks) (pattern_cut t v)
+
 -- it begins with the opener of plane 0
 abbrev pub after_first : Pattern → List ℕ
 after_first t = lines_bytes t 0 0 t.h ++ planes_bytes t 1 (t.planes - 1)
@@ -286,10 +305,10 @@ pub written_is : (t : Pattern) → IsValidPattern t → is_pattern (form_of t) (
 unfolding is_pattern
 written_is t v =
     let begins = written_begins t v in
-    let all : are_blocks (form_of t) 0 (cut (pattern_bytes t)).blocks ≡ true =
-    rw (pattern_cut t v) (blocks_are t t.planes 0 v.size (omega arith)) in
+    let all : are_blocks (form_of t) 0 (blocks (pattern_bytes t)) ≡ true =
+    ap (are_blocks (form_of t) 0) (pattern_blocks t v) ∙ blocks_are t t.planes 0 v.size (omega arith) in
     subst (λ (u : List ℕ). is_pattern (form_of t) u ≡ true) (sym begins)
-    (ap (λ (u : List ℕ). are_blocks (form_of t) 0 (cut u).blocks) (sym begins) ∙ all)
+    (ap (λ (u : List ℕ). are_blocks (form_of t) 0 (blocks u)) (sym begins) ∙ all)
 
 no_line_left : (n h p planes : ℕ) → n ≡ h → p + 1 ≡ planes → (ltb n h || (ltb p 3 && ltb (p + 1) planes)) ≡ false
 no_line_left n h p planes e f = grind (arith, nat_tests)
@@ -300,7 +319,7 @@ written_ends t v =
     let n = t.planes - 1 in
     let some = some_plane t.planes v.planes in
     grows_by_last (form_of t) (pattern_bytes t) (blocks_of t 0 n) (block_of t n) (written_is t v)
-    (ap (λ (c : Cut). c.blocks) (pattern_cut t v) ∙ ap (blocks_of t 0) some ∙ blocks_end t n 0 n (omega arith))
+    (pattern_blocks t v ∙ ap (blocks_of t 0) some ∙ blocks_end t n 0 n (omega arith))
     ∙ no_line_left _ t.h n t.planes
     (ap (λ (d : BlockPart). length d.lines) (block_drawn t n v.size)
     ∙ length-map-range_with_len (line_number t n) 0 t.h)
@@ -314,8 +333,8 @@ form_valid t v = record { size = v.size; planes = v.planes }
 pixel_back : (t : Pattern) (p y x : ℕ) → IsValidPattern t → p < t.planes → y < t.h → x < t.w
     → pixel (pattern (form_of t) (pattern_bytes t)) p y x ≡ pixel t p y x
 pixel_back t p y x v pl yl xl =
-    let lines : plane_lines (form_of t) p (cut (pattern_bytes t)).blocks ≡ line_numbers t p 0 t.h =
-    ap (λ (c : Cut). plane_lines (form_of t) p c.blocks) (pattern_cut t v)
+    let lines : plane_lines (form_of t) p (blocks (pattern_bytes t)) ≡ line_numbers t p 0 t.h =
+    ap (plane_lines (form_of t) p) (pattern_blocks t v)
     ∙ lines_of t t.planes 0 p v.size (omega arith) (omega arith) in
     pixel_drawn (form_of t) (pattern_bytes t) p y x (form_valid t v) (written_is t v) pl yl xl
     ∙ ap (λ (ls : List ℕ). slice_index ls y / 2 ^ x % 2) lines

@@ -12,7 +12,6 @@ use Rattle.cept_parser.specs.declared.context.Context.{Context}
 use Rattle.cept_parser.specs.declared.context.Outcome.{Outcome}
 use Rattle.cept_parser.specs.declared.fit.Fit.{Fit}
 use Rattle.cept_parser.specs.declared.fit.Fit.TheVariants.{Misfit, Open, Whole, Longer}
-use Rattle.cept_parser.specs.Context.{with_mode}
 
 -- a plain byte: 2/0 to 7/15
 abbrev pub is_plain : ℕ → Bool
@@ -22,13 +21,13 @@ is_plain a = is_between 0x20 0x7F a
 abbrev pub is_digit : ℕ → Bool
 is_digit a = is_between 0x30 0x39 a
 
+-- the number of two digits
+abbrev pub two_digits : ℕ → ℕ → ℕ
+two_digits a b = 10 * (a - 0x30) + (b - 0x30)
+
 -- the number of a digit
 abbrev pub digit : ℕ → ℕ
 digit a = a - 0x30
-
--- the number of two digits
-abbrev pub two_digits : ℕ → ℕ → ℕ
-two_digits a b = 10 * digit a + digit b
 
 -- a row: 4/1 to 5/8 for 1 to 24
 abbrev pub is_row : ℕ → Bool
@@ -45,7 +44,7 @@ contains bs a = list_any (λ b. b == a) bs
 
 -- what is said, with the context in this mode after it
 abbrev pub outcome : Context → Mode → Said → Outcome
-outcome x m said = record { said = said; next = with_mode x m }
+outcome x m said = record { said = said; next = record x { mode = m } }
 
 -- ---- how bytes stand to the grammar
 
@@ -101,10 +100,6 @@ sequence final (suc n) (a ∷ u) =
     if is_plain a then sequence final n u else
     Misfit
 
--- what a sequence says
-abbrev pub with_sequence : ℕ → ℕ → (List ℕ → Outcome) → Table
-with_sequence final n k u = record { fit = sequence final n u; outcome = k u }
-
 -- the same, or the beginning of it
 unfoldable pub begins_sequence : ℕ → ℕ → List ℕ → Bool
 begins_sequence final n u = is_fit (sequence final n u)
@@ -119,6 +114,6 @@ optional [] u = end u
 optional (p ∷ parts) [] = Longer
 optional (p ∷ parts) (a ∷ u) = if contains p a then optional parts u else optional parts (a ∷ u)
 
--- what optional parts say together
-abbrev pub with_options : List (List ℕ) → (List ℕ → Outcome) → Table
-with_options parts k u = record { fit = optional parts u; outcome = k u }
+-- bytes that stand as the first tells, and say what the second tells
+abbrev pub saying : (List ℕ → Fit) → (List ℕ → Outcome) → Table
+saying w k u = record { fit = w u; outcome = k u }

@@ -15,9 +15,10 @@ use Rattle.cept_parser.specs.Bytes.{is_between}
 abbrev pub is_c1_final : ℕ → Bool
 is_c1_final f = is_between 0x40 0x5F f && not (f == 0x5B)
 
+-- a whole escape sequence, after 1B
+unfoldable pub escape : List ℕ → Said
 -- 1B f
-unfoldable pub escape_1 : ℕ → Said
-escape_1 f =
+escape (f ∷ []) =
     if is_c1_final f then Says (command.C1 (f - 0x40)) else  -- C1 codes
     if f == 0x6E then Says (command.LockLeft 2) else  -- LS2
     if f == 0x6F then Says (command.LockLeft 3) else  -- LS3
@@ -25,10 +26,8 @@ escape_1 f =
     if f == 0x7D then Says (command.LockRight 2) else  -- LS2R
     if f == 0x7E then Says (command.LockRight 1) else  -- LS1R
     Refused UnknownEscape
-
 -- 1B i f: i 2/2 designates a C1 set, and 2/8 to 2/11 a set to G0 to G3. The finals of sets are own
-unfoldable pub escape_2 : ℕ → ℕ → Said
-escape_2 i f =
+escape (i ∷ f ∷ []) =
     if i == 0x22 && f == 0x40 then Says (command.DesignateC1 Serial) else  -- serial C1 set
     if i == 0x22 && f == 0x41 then Says (command.DesignateC1 Parallel) else  -- parallel C1 set
     if is_between 0x28 0x2B i && f == 0x40 then Says (command.Designate (i - 0x28) P) else  -- primary set
@@ -36,19 +35,11 @@ escape_2 i f =
     if is_between 0x28 0x2B i && f == 0x63 then Says (command.Designate (i - 0x28) M) else  -- first mosaic set
     if is_between 0x28 0x2B i && f == 0x64 then Says (command.Designate (i - 0x28) N) else  -- second mosaic set
     Refused UnknownEscape
-
 -- 1B i j f (own): an attribute of the full screen (no size) or of the full row, or the downloaded set for G0 to G3
-unfoldable pub escape_3 : ℕ → ℕ → ℕ → Said
-escape_3 i j f =
+escape (i ∷ j ∷ f ∷ []) =
     if i == 0x23 && j == 0x20 && is_between 0x4C 0x4F f then Refused UnknownEscape else  -- sizes
     if i == 0x23 && j == 0x20 && is_c1_final f then Says (command.FullScreen (f - 0x40)) else  -- full screen
     if i == 0x23 && j == 0x21 && is_c1_final f then Says (command.FullRow (f - 0x40)) else  -- full row
     if is_between 0x28 0x2B i && j == 0x20 && f == 0x40 then Says (command.Designate (i - 0x28) D) else  -- DRCS
     Refused UnknownEscape
-
--- a whole escape sequence, after 1B
-unfoldable pub escape : List ℕ → Said
-escape (f ∷ []) = escape_1 f
-escape (i ∷ f ∷ []) = escape_2 i f
-escape (i ∷ j ∷ f ∷ []) = escape_3 i j f
 escape _ = Refused UnknownEscape

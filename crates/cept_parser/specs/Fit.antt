@@ -1,6 +1,7 @@
 -- What the functions of the tables answer (this project's own). No public clause cites this file.
-use Rattle.std.specs.Prelude.{ℕ, Bool, true, false, List, if◌then◌else◌, Option, Some, None}
+use Rattle.std.specs.Prelude.{ℕ, Bool, true, false, ◌&&◌, List, [], ◌∷◌, nat_lt, if◌then◌else◌, Option, Some, None}
 use Rattle.cept_codes.specs.declared.item.Said.{Said}
+use Rattle.cept_drcs.specs.Unit.{is_pattern}
 use Rattle.cept_parser.specs.declared.context.Context.{Context}
 use Rattle.cept_parser.specs.declared.context.Outcome.{Outcome}
 use Rattle.cept_parser.specs.declared.fit.Fit.{Fit}
@@ -39,3 +40,7 @@ answer s ended said x = record {
   said = if closes s.fit ended then s.outcome.said else said;
   context = if closes s.fit ended then s.outcome.next else x;
 }
+
+-- DrcsRun: a byte that begins a pattern for this code
+abbrev pub starts_pattern : Context → ℕ → ℕ → Bool
+starts_pattern x c a = nat_lt c 0x7F && is_pattern x.form (a ∷ [])

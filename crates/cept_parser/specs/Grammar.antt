@@ -9,7 +9,7 @@ use Rattle.cept_parser.specs.declared.context.Context.{Context}
 use Rattle.cept_parser.specs.declared.context.Outcome.{Outcome}
 use Rattle.cept_parser.specs.declared.fit.Fit.TheVariants.{Open}
 use Rattle.cept_parser.specs.Bytes.{is_plain, outcome, is_fit, is_whole, is_longer, Table, unsaid, complete}
-use Rattle.cept_parser.specs.Bytes.{then_plain, with_sequence}
+use Rattle.cept_parser.specs.Bytes.{then_plain, sequence, saying}
 use Rattle.cept_parser.specs.Context.{start_context}
 use Rattle.cept_parser.specs.Controls.{one_byte}
 use Rattle.cept_parser.specs.Escape.{escape}
@@ -25,14 +25,14 @@ repetition x = then_plain x (λ c. complete (
 
 -- after 9B or 1B 5B: CSI
 unfoldable pub csi_unit : Context → Table
-csi_unit x = with_sequence 0x40 7 (λ u. outcome x Text (csi u))
+csi_unit x = saying (sequence 0x40 7) (λ u. outcome x Text (csi u))
 
 -- after 1B: ESC
 abbrev pub after_escape : Context → Table
 after_escape x [] = unsaid x Open
 after_escape x (a ∷ u) =
     if a == 0x5B then csi_unit x u else  -- CSI
-    with_sequence 0x30 3 (λ v. outcome x Text (escape v)) (a ∷ u)
+    saying (sequence 0x30 3) (λ v. outcome x Text (escape v)) (a ∷ u)
 
 -- what stands wholly after 1B, and what begins so
 unfoldable pub escape_unit : Context → List ℕ → Option Outcome

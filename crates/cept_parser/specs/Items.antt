@@ -9,19 +9,15 @@ use Rattle.cept_codes.specs.declared.item.Said.{Said}
 use Rattle.cept_codes.specs.declared.item.Said.TheVariants.{Command as Says, Refused}
 use Rattle.cept_parser.specs.declared.context.Mode.TheVariants.{Text}
 use Rattle.cept_parser.specs.declared.context.Context.{Context}
-use Rattle.cept_parser.specs.declared.context.Outcome.{Outcome}
-use Rattle.cept_parser.specs.Context.{start_context, with_mode}
-use Rattle.cept_parser.specs.Grammar.{unit, fits, grows}
-use Rattle.cept_parser.specs.Bytes.{is_empty}
+use Rattle.cept_parser.specs.Context.{start_context}
+use Rattle.cept_parser.specs.Bytes.{outcome, is_fit, is_whole, is_longer}
+use Rattle.cept_parser.specs.Grammar.{standing}
 
 -- the length of the longest beginning that fits, of those of at most n bytes
 unfoldable pub longest_beginning_within : Context → List ℕ → ℕ → ℕ
 longest_beginning_within x b zero = 0
-longest_beginning_within x b (suc n) = if fits x (take (suc n) b) then suc n else longest_beginning_within x b n
-
--- the length of the longest beginning that fits
-unfoldable pub longest_beginning : Context → List ℕ → ℕ
-longest_beginning x b = longest_beginning_within x b (length b)
+longest_beginning_within x b (suc n) =
+    if is_fit (standing x (take (suc n) b)).fit then suc n else longest_beginning_within x b n
 
 -- the first item of bytes: what it says, its length, and the context after it
 pub record Front : Type 0 where
@@ -29,25 +25,15 @@ pub record Front : Type 0 where
   pub size : ℕ
   pub next : Context
 
--- it is refused
-abbrev pub is_refusal : Said → Bool
-is_refusal (Says c) = false
-is_refusal (Refused r) = true
-
--- the first item, where the longest beginning that fits has this length, is all of the bytes or not, grows or not,
--- and wholly is this. All of the bytes wait where they are no whole unit yet, or a unit that grows
-unfoldable pub front_of : Context → ℕ → Bool → Bool → Option Outcome → Option Front
-front_of x size all more (Some c) =
-    if is_refusal c.said || not (all && more) then Some (record { said = c.said; size = size; next = c.next }) else None
-front_of x size all more None =
-    if all then None else Some (record { said = Refused Interrupted; size = size; next = with_mode x Text })
-
--- the first item of bytes, none where they wait for more
+-- the first item: what the longest beginning that fits says, or that it is interrupted. None where all of the bytes wait:
+-- they are no whole unit yet, or a unit that grows
 unfoldable pub front : Context → List ℕ → Option Front
 front x b =
-    let n = longest_beginning x b in
-    let u = take n b in
-    front_of x n (n == length b) (grows x u) (unit x u)
+    let n = longest_beginning_within x b (length b) in
+    let s = standing x (take n b) in
+    let o = if is_whole s.fit then s.outcome else outcome x Text (Refused Interrupted) in
+    if n == length b && (not (is_whole s.fit) || is_longer s.fit) then None else
+    Some (record { said = o.said; size = n; next = o.next })
 
 -- what bytes say: their items, and after these the context, the place and the bytes that are pending
 pub record Reading : Type 0 where
@@ -55,10 +41,6 @@ pub record Reading : Type 0 where
   pub context : Context
   pub at : ℕ
   pub pending : List ℕ
-
--- a reading with items before it
-abbrev pub reading_with_items : List Item → Reading → Reading
-reading_with_items is r = record r { items = is ++ r.items }
 
 -- bytes of which none is an item yet
 abbrev pub waiting_reading : Context → ℕ → List ℕ → Reading
@@ -68,35 +50,28 @@ waiting_reading x at b = record { items = []; context = x; at = at; pending = b 
 unfoldable pub reading_by : (Context → ℕ → List ℕ → Reading) → Context → ℕ → List ℕ → Option Front → Reading
 reading_by more x at b None = waiting_reading x at b
 reading_by more x at b (Some f) =
-    reading_with_items (record { at = at; len = f.size; what = f.said } ∷ []) (more f.next (at + f.size) (drop f.size b))
+    let r = more f.next (at + f.size) (drop f.size b) in
+    record r { items = record { at = at; len = f.size; what = f.said } ∷ r.items }
 
 -- the reading of bytes that stand at this place, up to so many items
 unfoldable pub reading_within : ℕ → Context → ℕ → List ℕ → Reading
 reading_within zero x at b = waiting_reading x at b
 reading_within (suc n) x at b = reading_by (reading_within n) x at b (front x b)
 
--- the reading of bytes that stand at this place: there are at most as many items as bytes
-abbrev pub reading_at : Context → ℕ → List ℕ → Reading
-reading_at x at b = reading_within (length b) x at b
-
--- the reading of all bytes from the first on
+-- the reading of all bytes from the first on: there are at most as many items as bytes
 abbrev pub reading : List ℕ → Reading
-reading b = reading_at start_context 0 b
+reading b = reading_within (length b) start_context 0 b
 
 -- the items of bytes after which more may come
 abbrev pub items : List ℕ → List Item
 items b = (reading b).items
 
--- what pending bytes say at the end of the input: their command where they are a unit, else they are truncated
-unfoldable pub said_at_end : Option Outcome → Said
-said_at_end (Some c) = c.said
-said_at_end None = Refused Truncated
-
--- the items that the end of the input adds
+-- the items that the end of the input adds: pending bytes say their command where they are a unit, else they are truncated
 unfoldable pub closing_items : Reading → List Item
 closing_items r =
-    if is_empty r.pending then [] else
-    record { at = r.at; len = length r.pending; what = said_at_end (unit r.context r.pending) } ∷ []
+    let s = standing r.context r.pending in
+    let said = if is_whole s.fit then s.outcome.said else Refused Truncated in
+    if length r.pending == 0 then [] else record { at = r.at; len = length r.pending; what = said } ∷ []
 
 -- the items of bytes that end here
 abbrev pub closed_items : List ℕ → List Item
@@ -114,3 +89,18 @@ commands_of is = flat_map (λ i. command_said i.what) is
 -- the commands of bytes that end here
 abbrev pub commands : List ℕ → List Command
 commands b = commands_of (closed_items b)
+
+-- it is refused
+abbrev pub is_refusal : Said → Bool
+is_refusal (Says c) = false
+is_refusal (Refused r) = true
+
+-- ---- what laws and private clauses say beside these
+
+-- the reading of bytes that stand at this place
+abbrev pub reading_at : Context → ℕ → List ℕ → Reading
+reading_at x at b = reading_within (length b) x at b
+
+-- a reading with items before it
+abbrev pub reading_with_items : List Item → Reading → Reading
+reading_with_items is r = record r { items = is ++ r.items }

@@ -1,6 +1,6 @@
 -- Units that begin with a plain byte, by the mode: signs, colours, patterns, and bytes that are passed over (the modes
 -- are this profile's own).
-use Rattle.std.specs.Prelude.{ℕ, ◌+◌, ◌*◌, ◌/◌, ◌%◌, ◌^◌, Bool, ◌&&◌, if◌then◌else◌, nat_lt, nat_le, [], ◌∷◌}
+use Rattle.std.specs.Prelude.{ℕ, ◌+◌, ◌*◌, ◌/◌, ◌%◌, ◌^◌, ◌&&◌, if◌then◌else◌, nat_lt, nat_le, [], ◌∷◌}
 use Rattle.cept_codes.specs.declared.command.Command.TheVariants as command
 use Rattle.cept_codes.specs.declared.item.Reason.TheVariants.{BadParameter}
 use Rattle.cept_codes.specs.declared.item.Said.TheVariants.{Command as Says, Refused}
@@ -9,13 +9,8 @@ use Rattle.cept_drcs.specs.Unit.{is_pattern, pattern, pattern_grows}
 use Rattle.cept_parser.specs.declared.context.Mode.{Mode}
 use Rattle.cept_parser.specs.declared.context.Mode.TheVariants.{Text, TableRun, DclutRun, DrcsRun, Skip}
 use Rattle.cept_parser.specs.declared.context.Context.{Context}
-use Rattle.cept_parser.specs.declared.context.Outcome.{Outcome}
 use Rattle.cept_parser.specs.declared.fit.Fit.TheVariants.{Misfit, Whole, Longer}
 use Rattle.cept_parser.specs.Bytes.{outcome, Table, complete, then_plain}
-
--- a plain byte that can't begin or continue the unit of its run
-abbrev pub misplacement : Context → Outcome
-misplacement x = outcome x Skip (Refused BadParameter)
 
 -- the bit of a number worth 2 to the power of k
 abbrev pub bit : ℕ → ℕ → ℕ
@@ -35,11 +30,7 @@ colour a b = record { r = colour_part 2 a b; g = colour_part 1 a b; b = colour_p
 unfoldable pub table_entry : Context → ℕ → ℕ → Table
 table_entry x i a = then_plain x (λ b. complete (
     if nat_le 0x40 b then outcome x (TableRun (i + 1)) (Says (command.Entry i (colour a b))) else
-    misplacement x))
-
--- DrcsRun: a byte that begins a pattern for this code
-abbrev pub starts_pattern : Context → ℕ → ℕ → Bool
-starts_pattern x c a = nat_lt c 0x7F && is_pattern x.form (a ∷ [])
+    outcome x Skip (Refused BadParameter)))
 
 -- a pattern for this code: each beginning of it is one itself
 abbrev pub with_pattern : Context → ℕ → Table
@@ -48,16 +39,17 @@ with_pattern x c u = record {
   outcome = outcome x (DrcsRun (c + 1)) (Says (command.DrcsPattern c (pattern x.form u)));
 }
 
--- the unit of a mode that begins with this plain byte. A value of the DCLUT is its five low bits
+-- the unit of a mode that begins with this plain byte. A value of the DCLUT is its five low bits. A byte that can't begin
+-- the unit of its run is refused
 abbrev pub run_unit : Mode → Context → ℕ → Table
 run_unit Text x a u = complete (outcome x Text (Says (command.Graphic a))) u
 run_unit Skip x a u = complete (outcome x Skip (Says command.Skipped)) u
 run_unit (TableRun i) x a u =
     if nat_lt i 32 && nat_le 0x40 a then table_entry x i a u else
-    complete (misplacement x) u
+    complete (outcome x Skip (Refused BadParameter)) u
 run_unit (DclutRun i) x a u =
     if nat_lt i 4 && nat_le 0x40 a then complete (outcome x (DclutRun (i + 1)) (Says (command.Dclut i (a % 32)))) u else
-    complete (misplacement x) u
+    complete (outcome x Skip (Refused BadParameter)) u
 run_unit (DrcsRun c) x a u =
-    if starts_pattern x c a then with_pattern x c (a ∷ u) else
-    complete (misplacement x) u
+    if nat_lt c 0x7F && is_pattern x.form (a ∷ []) then with_pattern x c (a ∷ u) else
+    complete (outcome x Skip (Refused BadParameter)) u

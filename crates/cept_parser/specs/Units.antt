@@ -14,7 +14,7 @@ use Rattle.cept_parser.specs.declared.context.Context.{Context}
 use Rattle.cept_parser.specs.declared.context.Outcome.{Outcome}
 use Rattle.cept_parser.specs.Context.{start_context}
 use Rattle.cept_parser.specs.Bytes.{is_between, is_digit, two_digits, is_row, contains}
-use Rattle.cept_parser.specs.Bytes.{outcome, is_longer, Table, complete, then_plain, with_options}
+use Rattle.cept_parser.specs.Bytes.{outcome, is_longer, Table, complete, then_plain, optional, saying}
 
 -- 1F r c, r 4/0 to 7/15: a position, c 4/1 to 6/8 for column 1 to 40
 unfoldable pub us_position : Context → ℕ → Table
@@ -46,13 +46,9 @@ drcs_header x u =
 -- 1F 23: downloaded characters
 unfoldable pub drcs_unit : Context → Table
 drcs_unit x = then_plain x (λ c u.
-    if c == 0x20 then with_options drcs_parts (drcs_header x) u else
+    if c == 0x20 then saying (optional drcs_parts) (drcs_header x) u else
     if is_between 0x21 0x7E c then complete (outcome x (DrcsRun c) (Says (command.DrcsStart c))) u else
     complete (outcome x Skip (Refused BadParameter)) u)
-
--- the optional parts of 1F 26 20: the kind, the form of the colours, and of one byte
-abbrev pub colour_parts : List (List ℕ)
-colour_parts = (0x20 ∷ 0x22 ∷ []) ∷ (0x34 ∷ []) ∷ (0x40 ∷ []) ∷ []
 
 -- 1F 26 20: the header of colours, for the DCLUT by 2/2
 unfoldable pub colour_header : Context → List ℕ → Outcome
@@ -77,19 +73,15 @@ colour_start x t = then_plain x (λ o. complete (
     if is_digit o && nat_le i (last_place x.kind) then outcome x (run_from x.kind i) (Says (command.ColourStart i)) else
     outcome x Skip (Refused BadParameter)))
 
--- 1F 26: colours
+-- 1F 26: colours. The optional parts of 1F 26 20 are the kind, the form of the colours, and the form of one byte
 unfoldable pub colour_unit : Context → Table
 colour_unit x = then_plain x (λ a u.
-    if a == 0x20 then with_options colour_parts (colour_header x) u else
+    if a == 0x20 then saying (optional ((0x20 ∷ 0x22 ∷ []) ∷ (0x34 ∷ []) ∷ (0x40 ∷ []) ∷ [])) (colour_header x) u else
     if a == 0x21 then complete (outcome x Skip (Says command.ColourDefaults)) u else
     if is_digit a then colour_start x a u else
     complete (outcome x Skip (Refused BadParameter)) u)
 
--- the optional parts of 1F 2D: the rows, and whether positions wrap
-abbrev pub format_parts : List (List ℕ)
-format_parts = (0x41 ∷ 0x42 ∷ []) ∷ (0x70 ∷ 0x71 ∷ []) ∷ []
-
--- 1F 2D: the format, 20 rows by 4/2, no wrap by 7/1
+-- 1F 2D: the format. Its optional parts are the rows, 20 by 4/2, and whether positions wrap, not by 7/1
 unfoldable pub format : Context → List ℕ → Outcome
 format x u =
     outcome x Text (Says (command.Format (if contains u 0x42 then 20 else 24) (not (contains u 0x71))))
@@ -118,7 +110,7 @@ unfoldable pub us_unit : Context → Table
 us_unit x = then_plain x (λ a u.
     if a == 0x23 then drcs_unit x u else  -- downloaded characters
     if a == 0x26 then colour_unit x u else  -- colours
-    if a == 0x2D then with_options format_parts (format x) u else  -- format
+    if a == 0x2D then saying (optional ((0x41 ∷ 0x42 ∷ []) ∷ (0x70 ∷ 0x71 ∷ []) ∷ [])) (format x) u else  -- format
     if a == 0x2F then service_unit x u else  -- service
     if is_between 0x20 0x3F a then complete (outcome x Skip (Refused UnknownUnit)) u else
     us_position x a u)  -- APA

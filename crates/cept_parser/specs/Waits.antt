@@ -9,7 +9,7 @@ use Rattle.cept_parser.specs.declared.context.Mode.{Mode}
 use Rattle.cept_parser.specs.declared.context.Mode.TheVariants.{Text, TableRun, DclutRun, DrcsRun, Skip}
 use Rattle.cept_parser.specs.declared.context.Context.{Context}
 use Rattle.cept_parser.specs.Bytes.{is_plain}
-use Rattle.cept_parser.specs.Runs.{starts_pattern}
+use Rattle.cept_parser.specs.Fit.{starts_pattern}
 use Rattle.cept_parser.specs.Grammar.{fits}
 use Rattle.cept_parser.specs.declared.reader.Reader.{Reader}
 use Rattle.cept_parser.specs.Items.{Reading, front, reading_at}

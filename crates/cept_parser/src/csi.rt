@@ -1,13 +1,13 @@
-ghost use Rattle.std.specs.Prelude.{◌≡◌};
-ghost use Rattle.cept_parser.specs.Csi.{csi_2, area, csi};
+ghost use Rattle.std.specs.Prelude.{◌≡◌, [], ◌∷◌};
+ghost use Rattle.cept_parser.specs.Csi.{area, csi};
 
 use crate::bytes::{is_digit, two_digits};
 use cept_codes::{Command, Reason, Said};
 
 /// CSI, a parameter and a final byte.
-#[tactic(auto, unfolding(crate::specs::Csi::csi_2))]
+#[tactic(auto, unfolding(crate::specs::Csi::csi))]
 fn csi_2(first: u8, last: u8) -> Said
-    ensures { result ≡ csi_2 first last }
+    ensures { result ≡ csi (first ∷ last ∷ []) }
 {
     match (first, last) {
         (0x30..=0x33, 0x40) => Said::Command(Command::Table(first - 0x30)), // CT1 to CT4

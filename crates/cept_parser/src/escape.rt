@@ -1,5 +1,5 @@
-ghost use Rattle.std.specs.Prelude.{◌≡◌};
-ghost use Rattle.cept_parser.specs.Escape.{is_c1_final, escape_1, escape_2, escape_3, escape};
+ghost use Rattle.std.specs.Prelude.{◌≡◌, [], ◌∷◌};
+ghost use Rattle.cept_parser.specs.Escape.{is_c1_final, escape};
 
 use cept_codes::{C1Set, Command, Reason, Said, SetId};
 
@@ -11,9 +11,9 @@ fn is_c1_final(byte: u8) -> bool
 }
 
 /// ESC and a final byte.
-#[tactic(auto, unfolding(crate::specs::Escape::escape_1))]
+#[tactic(auto, unfolding(crate::specs::Escape::escape))]
 fn escape_1(last: u8) -> Said
-    ensures { result ≡ escape_1 last }
+    ensures { result ≡ escape (last ∷ []) }
 {
     match last {
         _ if is_c1_final(last) => Said::Command(Command::C1(last - 0x40)), // C1 codes
@@ -27,9 +27,9 @@ fn escape_1(last: u8) -> Said
 }
 
 /// ESC, an intermediate byte and a final byte: a C1 set is designated, or a set to G0 to G3.
-#[tactic(auto, unfolding(crate::specs::Escape::escape_2))]
+#[tactic(auto, unfolding(crate::specs::Escape::escape))]
 fn escape_2(first: u8, last: u8) -> Said
-    ensures { result ≡ escape_2 first last }
+    ensures { result ≡ escape (first ∷ last ∷ []) }
 {
     match (first, last) {
         (0x22, 0x40) => Said::Command(Command::DesignateC1(C1Set::Serial)), // serial C1 set
@@ -44,9 +44,9 @@ fn escape_2(first: u8, last: u8) -> Said
 
 /// ESC, two intermediate bytes and a final byte: an attribute of the full screen (no size) or of the
 /// full row, or the downloaded set for G0 to G3.
-#[tactic(auto, unfolding(crate::specs::Escape::escape_3))]
+#[tactic(auto, unfolding(crate::specs::Escape::escape))]
 fn escape_3(first: u8, second: u8, last: u8) -> Said
-    ensures { result ≡ escape_3 first second last }
+    ensures { result ≡ escape (first ∷ second ∷ last ∷ []) }
 {
     match (first, second, last) {
         (0x23, 0x20, 0x4C..=0x4F) => Said::Refused(Reason::UnknownEscape), // sizes

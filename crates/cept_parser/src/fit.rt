@@ -1,7 +1,7 @@
 ghost use Rattle.std.specs.Prelude.{◌≡◌, ◌≢◌, ◌≤◌, ◌∷◌, [], true, false, Bool, length};
 ghost use Rattle.cept_codes.specs.Command.{IsValidForm};
 ghost use Rattle.cept_parser.specs.Bytes.{outcome, is_between, is_plain, end, sequence};
-ghost use Rattle.cept_parser.specs.Bytes.{with_sequence};
+ghost use Rattle.cept_parser.specs.Bytes.{saying};
 ghost use Rattle.cept_parser.specs.Escape.{escape};
 ghost use Rattle.cept_parser.specs.Grammar.{repetition, csi_unit, after_escape, after_breaker};
 ghost use Rattle.cept_parser.specs.Grammar.{standing};
@@ -129,7 +129,7 @@ fn control_sequence(context: &mut Context, bytes: &[u8], said: &mut Said) -> Fit
 /// ESC without CSI: what stands after 1B.
 fn other_escape(context: &mut Context, bytes: &[u8], said: &mut Said) -> Fit
     ensures { (ended : Bool) → record { fit = result; said = said.new; context = context.new }
-        ≡ answer (with_sequence 0x30 3 (λ u. outcome context.old Mode.Text (escape u)) bytes.now) ended
+        ≡ answer (saying (sequence 0x30 3) (λ u. outcome context.old Mode.Text (escape u)) bytes.now) ended
         said.old context.old }
 {
     let fit = sequence(0x30, 3, bytes);

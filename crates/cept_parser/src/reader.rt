@@ -2,7 +2,8 @@ ghost use Rattle.std.specs.Prelude.{◌≡◌, ◌≢◌, ◌≤◌, ◌<◌, �
 ghost use Rattle.std.specs.Prelude.{None, IsSome, IfSome};
 ghost use Rattle.cept_codes.specs.Command.{IsValidForm};
 ghost use Rattle.cept_parser.specs.Grammar.{unit, fits};
-ghost use Rattle.cept_parser.specs.Items.{front, reading_at, said_at_end};
+ghost use Rattle.cept_parser.specs.Items.{front, reading_at};
+ghost use Rattle.cept_parser.specs.inside.Waits.{said_at_end};
 ghost use Rattle.cept_parser.specs.Valid.{IsValidContext};
 ghost use Rattle.cept_parser.specs.Waits.{in_pattern, IsBeside, IsWaiting, HasFitting};
 ghost use Rattle.cept_parser.specs.inside.Waits.{IsIdle};

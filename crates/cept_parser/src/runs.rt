@@ -1,8 +1,10 @@
 ghost use Rattle.std.specs.Prelude.{◌≡◌, ◌≢◌, ◌≤◌, ◌<◌, ◌+◌, [], length, Bool, false, nat_le};
 ghost use Rattle.cept_codes.specs.Command.{IsValidForm};
 ghost use Rattle.cept_parser.specs.Fit.{answer};
-ghost use Rattle.cept_parser.specs.Runs.{misplacement, bit, colour_part, colour};
-ghost use Rattle.cept_parser.specs.Runs.{table_entry, starts_pattern, run_unit};
+ghost use Rattle.cept_parser.specs.Runs.{bit, colour_part, colour};
+ghost use Rattle.cept_parser.specs.inside.Fit.{misplacement};
+ghost use Rattle.cept_parser.specs.Runs.{table_entry, run_unit};
+ghost use Rattle.cept_parser.specs.Fit.{starts_pattern};
 ghost use Rattle.cept_parser.specs.Waits.{begins_in};
 
 use crate::context::{Context, Mode};

@@ -1,11 +1,13 @@
 ghost use Rattle.std.specs.Prelude.{◌≡◌, ◌≢◌, ◌<◌, ◌∷◌, [], Bool, true, if◌then◌else◌};
 ghost use Rattle.cept_parser.specs.Bytes.{is_plain, is_digit, contains, outcome, complete, optional};
-ghost use Rattle.cept_parser.specs.Bytes.{with_options};
+ghost use Rattle.cept_parser.specs.Bytes.{saying};
 ghost use Rattle.cept_parser.specs.Fit.{answer};
 ghost use Rattle.cept_parser.specs.inside.Fit.{bytes_after};
 ghost use Rattle.cept_parser.specs.Units.{us_position, drcs_parts, drcs_form, drcs_header};
-ghost use Rattle.cept_parser.specs.Units.{drcs_unit, colour_parts, colour_header, last_place};
-ghost use Rattle.cept_parser.specs.Units.{run_from, colour_start, colour_unit, format_parts};
+ghost use Rattle.cept_parser.specs.Units.{drcs_unit, colour_header, last_place};
+ghost use Rattle.cept_parser.specs.inside.Fit.{colour_parts};
+ghost use Rattle.cept_parser.specs.Units.{run_from, colour_start, colour_unit};
+ghost use Rattle.cept_parser.specs.inside.Fit.{format_parts};
 ghost use Rattle.cept_parser.specs.Units.{format, service_break, service_unit, us_unit};
 
 use crate::bytes::{is_digit, is_row, two_digits};
@@ -115,7 +117,7 @@ fn drcs_options(bytes: &[u8]) -> Fit
 #[tactic(auto, unfolding(crate::specs::Units::drcs_header))]
 fn drcs_parts(context: &mut Context, bytes: &[u8], ended: bool, said: &mut Said) -> Fit
     ensures { record { fit = result; said = said.new; context = context.new }
-        ≡ answer (with_options drcs_parts (drcs_header context.old) bytes.now) ended said.old context.old }
+        ≡ answer (saying (optional drcs_parts) (drcs_header context.old) bytes.now) ended said.old context.old }
 {
     let fit = drcs_options(bytes);
     if fit.is_closed(ended) {
@@ -168,7 +170,7 @@ fn kind_of(dclut: bool) -> ColourKind
 #[tactic(auto, unfolding(crate::specs::Units::colour_header))]
 fn colour_parts(context: &mut Context, bytes: &[u8], ended: bool, said: &mut Said) -> Fit
     ensures { record { fit = result; said = said.new; context = context.new }
-        ≡ answer (with_options colour_parts (colour_header context.old) bytes.now) ended said.old context.old }
+        ≡ answer (saying (optional colour_parts) (colour_header context.old) bytes.now) ended said.old context.old }
 {
     let rest = bytes_after(&[0x20, 0x22], bytes);
     let rest = bytes_after(&[0x34], rest);
@@ -268,7 +270,7 @@ fn format_rows(bytes: &[u8]) -> u8
 #[inline(never)]
 fn format_parts(context: &mut Context, bytes: &[u8], ended: bool, said: &mut Said) -> Fit
     ensures { record { fit = result; said = said.new; context = context.new }
-        ≡ answer (with_options format_parts (format context.old) bytes.now) ended said.old context.old }
+        ≡ answer (saying (optional format_parts) (format context.old) bytes.now) ended said.old context.old }
 {
     let rest = bytes_after(&[0x41, 0x42], bytes);
     let fit = last_part(&[0x70, 0x71], rest);

@@ -1,7 +1,7 @@
 -- Control while a set of points is drawn: what the commands of a cell make of it, and their strokes.
-use Rattle.std.proofs.Common.{◌≡◌, ℕ, ◌+◌, ◌%◌, ◌≤◌, Bool, true, false, cond, leb, eqb, Option, None, Some}
+use Rattle.std.proofs.Common.{◌≡◌, ℕ, ◌%◌, ◌≤◌, Bool, true, false, cond, eqb, Option, None, Some}
 use Rattle.std.proofs.Common.{List, [], ◌∷◌, min, refl, sym, ap, ◌∙◌, subst, arith}
-use Rattle.std.proofs.lemmas.Bool.{cond_both}
+use Rattle.std.specs.Prelude.{nat_lt}
 use Rattle.std.proofs.lemmas.Bool.Decides.{nat_tests}
 use Rattle.cept_codes.specs.declared.cell.What.TheVariants as whats
 use Rattle.cept_codes.specs.declared.command.C1Set.TheVariants as c1sets
@@ -15,13 +15,13 @@ use Rattle.cept_codes.specs.declared.stroke.Stroke.TheVariants as strokes
 use Rattle.cept_codes.specs.Attribute.{unset_pen}
 use Rattle.cept_codes.specs.Place.{Place}
 use Rattle.cept_profile.specs.Control.{control_after, control_with, working_at}
-use Rattle.cept_profile.specs.Motions.{row_below, working_ahead}
-use Rattle.cept_profile.specs.Sets.{Sets, code_of, initial_sets, is_left, read_as, set_of}
+use Rattle.cept_profile.specs.Sets.{Sets, code_of, initial_sets, read_as, set_of}
 use Rattle.cept_profile.specs.Sets.{sign}
 use Rattle.cept_profile.specs.State.{Core}
 use Rattle.cept_profile.specs.Strokes.{strokes_of}
 use Rattle.cept_profile.specs.Working.{ControlState, Working}
-use Rattle.cept_profile.specs.Writing.{control_after_shift, sign_with_accent, strokes_of_read, working_after_read}
+use Rattle.cept_profile.specs.Writing.{control_after_shift, sign_with_accent}
+use Rattle.cept_profile.proofs.Laws.{ahead-at, strokes_of_read, working_after_read, working_ahead}
 use Rattle.cept_profile.proofs.Laws.{on_strokes-none}
 use Rattle.cept_plot.specs.inside.Drawing.{control_in_drawing}
 
@@ -83,19 +83,14 @@ position-control k v p within =
 -- ---- a sign
 
 -- moving on changes the position alone
-ahead_at : (c : ControlState) (n : ℕ) (w : Working)
-    → working_ahead c n w ≡ working_at (working_ahead c n w).row (working_ahead c n w).column w
-ahead_at c n w =
-    cond_both (leb (w.column + n) 40) (working_at w.row (w.column + n) w)
-    (cond c.wrap (working_at (row_below c w.row) 1 w) (working_at w.row 40 w))
-    (λ (u : Working). u ≡ working_at u.row u.column w) (λ e. refl) (λ e.
-    cond_both c.wrap (working_at (row_below c w.row) 1 w) (working_at w.row 40 w)
-    (λ (u : Working). u ≡ working_at u.row u.column w) (λ f. refl) (λ f. refl))
+ahead_at : (c : ControlState) (n : ℕ)
+    → working_ahead c n ≡ working_at (working_ahead c n).row (working_ahead c n).column c.working
+ahead_at c n = ahead-at (λ (w : Working). w ≡ working_at w.row w.column c.working) c n (λ row column. refl)
 
 -- the hand after a sign
 abbrev pub hand_after : Core → Sets → Hand → Glyph → Hand
 hand_after k s v g =
-    let on : Working = working_ahead (control_at k s v) 1 (control_at k s v).working in
+    let on : Working = working_ahead (control_at k s v) 1 in
     record { row = on.row; column = on.column; last = Some g; kept = v.kept }
 
 module _ (k : Core) (s : Sets) (v : Hand) (code : ℕ) (g : Glyph)
@@ -109,17 +104,17 @@ module _ (k : Core) (s : Sets) (v : Hand) (code : ℕ) (g : Glyph)
       ap (λ (r : Read). control_with from (working_after_read spent r)) gives
       ∙ ap (λ (w : Working). control_with from
       (record w { last = Some (sign_with_accent g.set g.code None); accent = None }))
-      (ahead_at spent 1 spent.working)
+      (ahead_at spent 1)
 
   pub sign-strokes : strokes_of (control_at k s v) (commands.Graphic code)
       ≡ strokes.Put (record { row = v.row; column = v.column })
       (record { what = whats.Parallel (sign_with_accent g.set g.code None) unset_pen; protected = false }) ∷ []
   sign-strokes =
       let from : ControlState = control_at k s v in
-      ap (λ (r : Read). strokes_of_read from r) gives
+      ap (λ (r : Read). strokes_of_read (control_after_shift from) r) gives
       ∙ ap (λ (more : List Stroke). strokes.Put (record { row = v.row; column = v.column })
       (record { what = whats.Parallel (sign_with_accent g.set g.code None) unset_pen; protected = false }) ∷ more)
-      (on_strokes-none from 1 refl)
+      (on_strokes-none (control_after_shift from) 1 refl)
 
 -- ---- what bytes give
 
@@ -139,7 +134,7 @@ mosaic_gives code low high =
     let space : Read = reads.Glyph (sign sets.P 0x20) in
     let mosaic : Read = reads.Glyph (sign sets.M code) in
     let same : code % 0x80 ≡ code = omega arith in
-    let left : is_left code ≡ true = grind (arith, nat_tests) in
+    let left : nat_lt code 0x80 ≡ true = grind (arith, nat_tests) in
     let no_space : eqb code 0x20 ≡ false = grind (arith, nat_tests) in
     ap (λ (c : ℕ). read_as (set_of mosaic_sets code false) c) same
     ∙ ap (λ (t : Bool). read_as (cond t sets.M sets.S) code) left

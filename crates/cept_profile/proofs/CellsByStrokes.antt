@@ -14,7 +14,8 @@ use Rattle.cept_codes.specs.declared.stroke.Stroke.TheVariants as strokes
 use Rattle.cept_codes.specs.Cell.{blank_cell}
 use Rattle.cept_codes.specs.Place.{OnScreen}
 use Rattle.cept_codes.specs.Table.{table, value_at}
-use Rattle.cept_profile.specs.Cells.{is_at, cell_after, cell_back, cells_after, cells_after_all}
+use Rattle.cept_profile.specs.Cells.{is_at, cell_after, cells_after, cells_after_all}
+use Rattle.cept_profile.specs.PageParts.{left_by}
 use Rattle.cept_codes.proofs.Laws.{value_at-table, same_table}
 
 -- by both cases of a test
@@ -75,10 +76,13 @@ cell_after-same strokes.DrcsClear was other valid same r c on = same r c on
 cell_after-same (strokes.Drcs code pattern) was other valid same r c on = same r c on
 cell_after-same (strokes.Format rows) was other valid same r c on = same r c on
 
+-- the cell at row r and column c after the strokes, the last first
+abbrev pub cell_back : List Stroke → ℕ → ℕ → Cell
+cell_back strokes = left_by cell_after (λ r c. blank_cell) strokes
+
 -- one more stroke
 pub cells_after-cell_back : (stroke : Stroke) (earlier : List Stroke) → IsValidStroke stroke
     → table (cell_back (stroke ∷ earlier)) ≡ cells_after (table (cell_back earlier)) stroke
-unfolding cell_back
 cells_after-cell_back stroke earlier valid =
     same_table (cell_back (stroke ∷ earlier)) (cell_after stroke (value_at blank_cell (table (cell_back earlier))))
     (λ r c on. cell_after-same stroke (cell_back earlier) (value_at blank_cell (table (cell_back earlier))) valid

@@ -1,12 +1,11 @@
 -- Rows read by their columns, from 1: within the row, outside it, and row by row in a table.
-use Rattle.std.proofs.Common.{◌≡◌, ℕ, ◌+◌, ◌-◌, ◌<◌, ◌≤◌, ◌==◌, ◌⊎◌, inl, inr, zero, suc, Bool, false, List, length}
+use Rattle.std.proofs.Common.{◌≡◌, ℕ, ◌+◌, ◌-◌, ◌<◌, ◌≤◌, ◌⊎◌, inl, inr, zero, suc, Bool, false, List, length}
 use Rattle.std.proofs.Common.{map, rules}
 use Rattle.std.proofs.Common.{get_or}
 use Rattle.std.proofs.Common.{refl, sym, ap, ◌∙◌, arith}
 use Rattle.std.specs.List.{list_any, range_with_len}
 use Rattle.std.proofs.Math.ListN.{get_or-map}
-use Rattle.std.proofs.lemmas.Bool.{cases_lt, cond-false, false_from_ne_true, true≢false}
-use Rattle.std.proofs.lemmas.Bool.Decides.{nat_tests}
+use Rattle.std.proofs.lemmas.Bool.{cases_lt, false_from_ne_true, true≢false}
 use Rattle.std.proofs.lemmas.List.Elements.{All-from_get_or}
 use Rattle.std.proofs.lemmas.List.Folds.{list_any_at, list_any_none}
 use Rattle.std.proofs.lemmas.List.FromFn.{get_or-range_with_len, length-range_with_len}
@@ -20,12 +19,10 @@ use Rattle.cept_profile.specs.Tiling.{column_entry}
 -- ---- one row
 
 column_entry-index : {X : Type 0} (d : X) (row : List X) (c : ℕ) → 1 ≤ c → column_entry d row c ≡ get_or row (c - 1) d
-column_entry-index d row c low =
-    let other : (c == 0) ≡ false = grind (arith, nat_tests) in
-    cond-false (c == 0) d (get_or row (c - 1) d) other
+column_entry-index d row c low = entry_from d 1 row c low
 
 pub column_entry-at : {X : Type 0} (d : X) (row : List X) (c : ℕ) → 1 ≤ c → column_entry d row c ≡ entry d 1 row c
-column_entry-at d row c low = column_entry-index d row c low ∙ sym (entry_from d 1 row c low)
+column_entry-at d row c low = refl
 
 pub length-row_of : {X : Type 0} (f : ℕ → X) → length (row_of f) ≡ 40
 length-row_of f = ap length (row_of-list_by_index f) ∙ length-list_by_index 1 40 f

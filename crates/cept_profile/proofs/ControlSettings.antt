@@ -1,7 +1,7 @@
 -- Settings of control: a command sets what looking back says that it sets, and nothing else.
-use Rattle.std.proofs.Common.{◌≡◌, ℕ, ◌+◌, ◌-◌, ◌≤◌, zero, suc, Bool, true, false, cond, eqb, leb, Option, Some}
+use Rattle.std.proofs.Common.{◌≡◌, ℕ, ◌≤◌, zero, suc, Bool, true, false, cond, eqb, Option, Some}
 use Rattle.std.proofs.Common.{None, unwrap_or, List, [], ◌∷◌, reverse, refl, sym, ◌∙◌, ap, arith, ◌⊎◌, inl, inr, subst}
-use Rattle.std.proofs.Common.{◌&&◌}
+use Rattle.std.proofs.Common.{◌&&◌, ◌||◌}
 use Rattle.std.proofs.lemmas.Bool.{cond_both, cond-false, cond-true, false≢true}
 use Rattle.cept_codes.specs.declared.attribute.Attr.{Attr}
 use Rattle.cept_codes.specs.declared.attribute.Attr.TheVariants as attrs
@@ -16,23 +16,22 @@ use Rattle.cept_codes.specs.declared.glyph.Read.{Read}
 use Rattle.cept_codes.specs.declared.glyph.Read.TheVariants as reads
 use Rattle.cept_codes.specs.declared.glyph.SetId.{SetId}
 use Rattle.cept_codes.specs.Command.{IsValidCommand}
-use Rattle.cept_profile.specs.Control.{Working, ControlState, control_with, working_at}
-use Rattle.cept_profile.specs.Control.{finds_accent, state_for_effect, control_effect, control_back, control}
+use Rattle.cept_profile.specs.Control.{Working, ControlState, control_with}
+use Rattle.cept_profile.specs.Control.{finds_accent, state_for_effect, control_back, control}
 use Rattle.cept_profile.specs.ControlSettings.{before_service, is_running, outer_back, c1_said, table_said}
 use Rattle.cept_profile.specs.ControlSettings.{protect_said, set_said, left_said, right_said, fore_in, back_in}
 use Rattle.cept_profile.specs.ControlSettings.{conceal_in, lined_in, boxed_in, size_in, invert_in, parallel_said}
 use Rattle.cept_profile.specs.ControlSettings.{class_said, rows_said, wrap_said, implicit_said, created_back, area_said, revision_said}
 use Rattle.cept_profile.specs.ControlSettings.{Settings, settings_of, settings_back, settings}
-use Rattle.cept_profile.specs.Motions.{row_below, row_above, working_ahead, working_back}
-use Rattle.cept_profile.specs.Markers.{marker_of, working_after_marker}
-use Rattle.cept_profile.specs.Pens.{attribute_of, fast_after, fast_after_code, flash_of, pen_with_any}
-use Rattle.cept_profile.specs.Pens.{working_after_function}
+use Rattle.cept_profile.specs.Pens.{c1_function, fast_after, flash_of, pen_with}
 use Rattle.cept_profile.specs.Sets.{sets_with}
 use Rattle.cept_profile.specs.Valid.{AllValid}
-use Rattle.cept_profile.specs.Writing.{control_after_copies, working_after_repeat, working_after_read, graphic_read}
-use Rattle.cept_profile.specs.Writing.{columns_of_sign, control_after_shift}
-use Rattle.cept_profile.proofs.CopiesOfSigns.{control_with-control_after_copies}
-use Rattle.cept_profile.specs.Control.{area_without, control_after_service}
+use Rattle.cept_profile.specs.Writing.{effect_of_copies, graphic_read}
+use Rattle.cept_profile.specs.Writing.{control_after_shift}
+use Rattle.cept_profile.proofs.Halves.{area_without, control_after_service}
+use Rattle.cept_profile.proofs.Halves.{columns_of_sign, control_after_copies, control_effect, working_after_function}
+use Rattle.cept_profile.proofs.Halves.{working_after_marker, working_after_read, working_after_repeat, working_ahead}
+use Rattle.cept_profile.proofs.MotionStrokes.{above-at, ahead-at, back-at, below-at}
 use Rattle.cept_profile.specs.ControlSettings.{area_back, is_area}
 use Rattle.cept_profile.proofs.CellsByStrokes.{by_bool}
 use Rattle.cept_profile.proofs.OneMoreState.{AllByRecursion-reverse}
@@ -68,69 +67,66 @@ told earlier command was = record {
 -- ---- one more command of control
 
 -- what moves leaves the settings
-working_ahead-same : (s t : ControlState) (n : ℕ) (w : Working) → settings_of (control_with s (working_ahead t n w))
-    ≡ settings_of (control_with s w)
-working_ahead-same s t n w =
-    cond_both (leb (w.column + n) 40) (working_at w.row (w.column + n) w)
-    (cond t.wrap (working_at (row_below t w.row) 1 w) (working_at w.row 40 w))
-    (λ v. settings_of (control_with s v) ≡ settings_of (control_with s w))
-    (λ e. refl)
-    (λ e. cond_both t.wrap (working_at (row_below t w.row) 1 w) (working_at w.row 40 w)
-    (λ v. settings_of (control_with s v) ≡ settings_of (control_with s w)) (λ e1. refl) (λ e1. refl))
-
-working_back-same : (s t : ControlState) (w : Working) → settings_of (control_with s (working_back t w))
-    ≡ settings_of (control_with s w)
-working_back-same s t w =
-    cond_both (eqb w.column 1) (cond t.wrap (working_at (row_above t w.row) 40 w) w) (working_at w.row (w.column - 1) w)
-    (λ v. settings_of (control_with s v) ≡ settings_of (control_with s w))
-    (λ e. cond_both t.wrap (working_at (row_above t w.row) 40 w) w
-    (λ v. settings_of (control_with s v) ≡ settings_of (control_with s w)) (λ e1. refl) (λ e1. refl))
-    (λ e. refl)
+working_ahead-same : (s : ControlState) (n : ℕ) → settings_of (control_with s (working_ahead s n)) ≡ settings_of s
+working_ahead-same s n = ahead-at (λ w. settings_of (control_with s w) ≡ settings_of s) s n (λ r c. refl)
 
 -- and so does what writes
 control_after_copies-same : (n : ℕ) (s : ControlState) (g : Glyph)
     → settings_of (control_after_copies n s g) ≡ settings_of s
-unfolding control_after_copies
+unfolding effect_of_copies
 control_after_copies-same zero s g = refl
 control_after_copies-same (suc n) s g =
     let t : ControlState = control_after_copies n s g in
-    working_ahead-same t t (columns_of_sign t) t.working ∙ control_after_copies-same n s g
+    working_ahead-same t (columns_of_sign t) ∙ control_after_copies-same n s g
 
 working_after_repeat-same : (n : ℕ) (s : ControlState) (last : Option Glyph)
     → settings_of (control_with s (working_after_repeat n s last)) ≡ settings_of s
 working_after_repeat-same n s None = refl
-working_after_repeat-same n s (Some g) = ap settings_of (control_with-control_after_copies n s g)
-    ∙ control_after_copies-same n s g
+working_after_repeat-same n s (Some g) = control_after_copies-same n s g
 
 read-same : (s : ControlState) (read : Read)
     → settings_of (control_with s (working_after_read (control_after_shift s) read)) ≡ settings_of s
 read-same s (reads.Accent code) = refl
 read-same s (reads.Glyph g) =
     let t : ControlState = control_after_shift s in
-    working_ahead-same s t (columns_of_sign t) t.working
+    working_ahead-same t (columns_of_sign t)
 
--- a C1 code sets the class of its attribute
-any-told : (attr : Option Attr) (s : ControlState) (fast : ℕ) (earlier : List Command)
-    → settings_of (control_with s (record s.working { pen = pen_with_any attr s.working.pen; fast = fast }))
+-- an attribute sets its class
+attribute-told : (attr : Attr) (s : ControlState) (fast : ℕ)
+    → settings_of (control_with s (record s.working { pen = pen_with attr s.working.pen; fast = fast }))
     ≡ record (settings_of s) {
-      fore = unwrap_or (parallel_said fore_in c1sets.Parallel attr) s.working.pen.fore;
-      back = unwrap_or (parallel_said back_in c1sets.Parallel attr) s.working.pen.back;
-      conceal = unwrap_or (parallel_said conceal_in c1sets.Parallel attr) s.working.pen.conceal;
-      lined = unwrap_or (parallel_said lined_in c1sets.Parallel attr) s.working.pen.lined;
-      boxed = unwrap_or (parallel_said boxed_in c1sets.Parallel attr) s.working.pen.boxed;
-      size = unwrap_or (parallel_said size_in c1sets.Parallel attr) s.working.pen.size;
-      invert = unwrap_or (parallel_said invert_in c1sets.Parallel attr) s.working.pen.invert;
+      fore = unwrap_or (fore_in attr) s.working.pen.fore;
+      back = unwrap_or (back_in attr) s.working.pen.back;
+      conceal = unwrap_or (conceal_in attr) s.working.pen.conceal;
+      lined = unwrap_or (lined_in attr) s.working.pen.lined;
+      boxed = unwrap_or (boxed_in attr) s.working.pen.boxed;
+      size = unwrap_or (size_in attr) s.working.pen.size;
+      invert = unwrap_or (invert_in attr) s.working.pen.invert;
     }
-any-told None s fast earlier = refl
-any-told (Some (attrs.Fore e)) s fast earlier = refl
-any-told (Some (attrs.Back e)) s fast earlier = refl
-any-told (Some attrs.NoBack) s fast earlier = refl
-any-told (Some (attrs.Flash f)) s fast earlier = refl
-any-told (Some (attrs.Conceal b)) s fast earlier = refl
-any-told (Some (attrs.Lined b)) s fast earlier = refl
-any-told (Some (attrs.Boxed b)) s fast earlier = refl
-any-told (Some (attrs.Size z)) s fast earlier = refl
-any-told (Some (attrs.Invert b)) s fast earlier = refl
+attribute-told (attrs.Fore e) s fast = refl
+attribute-told (attrs.Back e) s fast = refl
+attribute-told attrs.NoBack s fast = refl
+attribute-told (attrs.Flash f) s fast = refl
+attribute-told (attrs.Conceal b) s fast = refl
+attribute-told (attrs.Lined b) s fast = refl
+attribute-told (attrs.Boxed b) s fast = refl
+attribute-told (attrs.Size z) s fast = refl
+attribute-told (attrs.Invert b) s fast = refl
+
+-- a C1 code sets that of its attribute
+any-told : (function : Option (Attr × Marker)) (s : ControlState) (fast : ℕ)
+    → settings_of (control_with s (working_after_function c1sets.Parallel function fast s))
+    ≡ record (settings_of s) {
+      fore = unwrap_or (parallel_said fore_in c1sets.Parallel function) s.working.pen.fore;
+      back = unwrap_or (parallel_said back_in c1sets.Parallel function) s.working.pen.back;
+      conceal = unwrap_or (parallel_said conceal_in c1sets.Parallel function) s.working.pen.conceal;
+      lined = unwrap_or (parallel_said lined_in c1sets.Parallel function) s.working.pen.lined;
+      boxed = unwrap_or (parallel_said boxed_in c1sets.Parallel function) s.working.pen.boxed;
+      size = unwrap_or (parallel_said size_in c1sets.Parallel function) s.working.pen.size;
+      invert = unwrap_or (parallel_said invert_in c1sets.Parallel function) s.working.pen.invert;
+    }
+any-told None s fast = refl
+any-told (Some function) s fast = attribute-told function.0 s fast
 
 -- the state with this C1 set
 abbrev under : C1Set → ControlState → ControlState
@@ -139,21 +135,20 @@ under set s = control_with s (record s.working { c1 = set })
 -- a marker leaves the settings
 marker-same : (s : ControlState) (m : Marker) (fast : ℕ)
     → settings_of (control_with s (record (working_after_marker s m) { fast = fast })) ≡ settings_of s
-marker-same s m fast = working_ahead-same s s 1 s.working
+marker-same s m fast = working_ahead-same s 1
 
-serial-same : (attr : Option Attr) (m : Option Marker) (fast : ℕ) (s : ControlState)
-    → settings_of (control_with s (working_after_function c1sets.Serial attr m fast s)) ≡ settings_of s
-serial-same attr None fast s = refl
-serial-same attr (Some m) fast s = marker-same s m fast
+serial-same : (function : Option (Attr × Marker)) (fast : ℕ) (s : ControlState)
+    → settings_of (control_with s (working_after_function c1sets.Serial function fast s)) ≡ settings_of s
+serial-same None fast s = refl
+serial-same (Some function) fast s = marker-same s function.1 fast
 
 code-told : (set : C1Set) (n : ℕ) (s : ControlState) (earlier : List Command)
     → settings_of (control_effect (under set s) (commands.C1 n))
     ≡ told earlier (commands.C1 n) (settings_of (under set s))
 code-told c1sets.Parallel n s earlier =
-    any-told (attribute_of s.working.table n) (under c1sets.Parallel s) (fast_after_code n s.working.fast) earlier
+    any-told (c1_function s.working.table n) (under c1sets.Parallel s) (cond (eqb n 8 || eqb n 9) 0 s.working.fast)
 code-told c1sets.Serial n s earlier =
-    serial-same (attribute_of s.working.table n) (marker_of s.working.table n) (fast_after_code n s.working.fast)
-    (under c1sets.Serial s)
+    serial-same (c1_function s.working.table n) (cond (eqb n 8 || eqb n 9) 0 s.working.fast) (under c1sets.Serial s)
 
 flash-told : (set : C1Set) (k : ℕ) (s : ControlState)
     → settings_of (control_effect (under set s) (commands.FlashMode k)) ≡ settings_of (under set s)
@@ -220,8 +215,13 @@ IsKnown-area_back (command ∷ earlier) = IsKnown-area_back earlier
 control_effect-told : (s : ControlState) (command : Command) (earlier : List Command) → IsKnown s.area earlier
     → IsValidCommand command → (command ≡ commands.ServiceEnd → s.kept ≡ None) → settings_of (control_effect s command)
     ≡ told earlier command (settings_of s)
-control_effect-told s commands.Back earlier known valid ended = working_back-same s s s.working
-control_effect-told s commands.Forward earlier known valid ended = working_ahead-same s s 1 s.working
+control_effect-told s commands.Back earlier known valid ended =
+    back-at (λ w. settings_of (control_with s w) ≡ settings_of s) s (λ r c. refl)
+control_effect-told s commands.Forward earlier known valid ended = working_ahead-same s 1
+control_effect-told s commands.Down earlier known valid ended =
+    below-at (λ w. settings_of (control_with s w) ≡ settings_of s) s s.working.column (λ r. refl)
+control_effect-told s commands.Up earlier known valid ended =
+    above-at (λ w. settings_of (control_with s w) ≡ settings_of s) s s.working.column (λ r. refl)
 control_effect-told s (commands.Designate g set) earlier known valid ended = sets_with-told g set s earlier valid
 control_effect-told s (commands.Graphic byte) earlier known valid ended = read-same s (graphic_read s byte)
 control_effect-told s (commands.Repeat n) earlier known valid ended = working_after_repeat-same n s s.working.last

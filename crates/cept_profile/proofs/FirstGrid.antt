@@ -16,25 +16,23 @@ use Rattle.cept_codes.specs.Place.{OnScreen}
 use Rattle.cept_codes.specs.Table.{list_by_index, table, value_at}
 use Rattle.cept_codes.proofs.Laws.{entry-list_by_index, list_by_index-entry, value_at-table, same_table}
 use Rattle.cept_profile.specs.Attributes.{cascade}
-use Rattle.cept_profile.specs.Cells.{cell_back, cells_after_all}
-use Rattle.cept_profile.specs.Colours.{back_paint, default_paints, fore_paint, paint_over}
+use Rattle.cept_profile.specs.Cells.{cells_after_all}
+use Rattle.cept_profile.specs.Colours.{default_paints, paint_over}
 use Rattle.cept_profile.specs.Control.{initial_control}
 use Rattle.cept_profile.specs.Look.{contents_of_row, grid, is_double_set, look, look_of, look_with, looks_of}
 use Rattle.cept_profile.specs.Definitions.{Definitions}
 use Rattle.cept_profile.specs.PageParts.{dclut_in, list_of_codes, list_of_colours, list_of_dclut, list_of_rows}
 use Rattle.cept_profile.specs.PageParts.{paint_in, part_after_all, pattern_in, row_pen_in}
-use Rattle.cept_profile.specs.State.{Core, Page, State, blank_page, core, core_of, definitions_of, page, state}
-use Rattle.cept_profile.specs.State.{state_after}
+use Rattle.cept_profile.specs.State.{Core, Page, State, blank_page, core, core_of, definitions_of, state}
+use Rattle.cept_profile.specs.State.{state_after, state}
 use Rattle.cept_profile.specs.Valid.{IsValidPage}
 use Rattle.cept_profile.proofs.PlainPages.{acts_beyond, look-plain}
 use Rattle.cept_profile.proofs.ValidLook.{IsValidFull-cascade, unset_pen-valid}
 
-pub page-none : page [] ≡ blank_page
-unfolding cell_back
+pub page-none : (state []).page ≡ blank_page
 page-none = refl
 
 pub state-none : state [] ≡ record { page = blank_page; control = initial_control }
-unfolding cell_back
 state-none = refl
 
 -- nothing written looks blank
@@ -75,7 +73,6 @@ look-unwritten k is r c on =
 -- ---- the start
 
 pub looks_of-blank_cell : looks_of (core []) ≡ table (λ r c. blank_look)
-unfolding cell_back
 looks_of-blank_cell =
     same_table (look (core [])) (λ r c. blank_look) (λ r c on.
     look-unwritten (core []) (record { cells = refl; row_pens = refl; screen = refl }) r c on ∙ look_of-blank_cell)
@@ -100,9 +97,9 @@ page-cleared_parts s = refl
 look_with-same : (paint_of other : ℕ → Paint) (shape : Shape) (f : Full) → IsValidFull f
     → ((i : ℕ) → i < 32 → paint_of i ≡ other i) → look_with paint_of shape f ≡ look_with other shape f
 look_with-same paint_of other shape f valid same =
-    let fore : fore_paint paint_of f ≡ fore_paint other f =
+    let fore : paint_of (cond f.invert f.back f.fore) ≡ other (cond f.invert f.back f.fore) =
     same (cond f.invert f.back f.fore) (cond_both f.invert f.back f.fore IsEntry (λ _. valid.back) (λ _. valid.fore)) in
-    let back : back_paint paint_of f ≡ back_paint other f =
+    let back : paint_of (cond f.invert f.fore f.back) ≡ other (cond f.invert f.fore f.back) =
     same (cond f.invert f.fore f.back) (cond_both f.invert f.fore f.back IsEntry (λ _. valid.fore) (λ _. valid.back)) in
     λ i. record (look_with paint_of shape f) { fore = paint_over (fore i) (back i); back = back i }
 

@@ -20,7 +20,7 @@ use Rattle.cept_profile.specs.NamesFromAbove.{default_names, names_in_row}
 use Rattle.cept_profile.specs.PageParts.{row_pen_in}
 use Rattle.cept_profile.specs.RowsFromAbove.{blank_looks, look_seen}
 use Rattle.cept_profile.specs.Serial.{is_marker, own_attributes_of, serial_attributes}
-use Rattle.cept_profile.specs.State.{Page, core, page}
+use Rattle.cept_profile.specs.State.{Page, core, state}
 use Rattle.cept_profile.specs.Tiling.{column_entry, part_at, single_part}
 use Rattle.cept_profile.proofs.ColumnEntries.{column_entry-row_of, column_entry-table}
 use Rattle.cept_profile.proofs.FirstGrid.{looks_of-blank_cell, page-none}
@@ -54,7 +54,7 @@ blank_there r c on =
     ap (λ (p : Page). (value_at blank_cell p.cells r c).what) page-none
     ∙ ap (λ (cell : Cell). cell.what) (value_at-table (λ _ _. blank_cell) blank_cell r c on)
 
-unset_there : (r : ℕ) → 1 ≤ r → r ≤ 24 → row_pen_in (page []).row_pens r ≡ unset_pen
+unset_there : (r : ℕ) → 1 ≤ r → r ≤ 24 → row_pen_in (state []).page.row_pens r ≡ unset_pen
 unset_there r low high =
     ap (λ (p : Page). row_pen_in p.row_pens r) page-none
     ∙ entry-list_by_index unset_pen 1 24 (λ _. unset_pen) r low (omega (arith, high))
@@ -64,6 +64,6 @@ pub names_at-first : (r c : ℕ) → OnScreen r c → names_at (core []) r c ≡
 names_at-first r c on =
     let whole : part_at (parts_of (core [])) r c ≡ single_part = whole_sign r c on in
     names_at-itself (core []) r c on (ap (λ (p : Part). p.dy) whole) (ap (λ (p : Part). p.dx) whole)
-    ∙ blank_named (contents_of_row (core []) r) (row_pen_in (page []).row_pens r) (page []).screen_pen c on.from_left
+    ∙ blank_named (contents_of_row (core []) r) (row_pen_in (state []).page.row_pens r) (state []).page.screen_pen c on.from_left
     (λ d from to. blank_there r d (search rules))
     (unset_there r on.from_top on.to_bottom) (ap (λ (p : Page). p.screen_pen) page-none)

@@ -11,13 +11,14 @@ use Rattle.cept_codes.specs.declared.stroke.Stroke.{Stroke}
 use Rattle.cept_codes.specs.declared.stroke.Stroke.TheVariants as strokes
 use Rattle.cept_codes.specs.Stroke.{IsValidStroke}
 use Rattle.cept_profile.specs.LastSaid.{pen_by_class, attributes_row, row_class, row_attributes, screen_attributes}
-use Rattle.cept_profile.specs.PageParts.{list_of_rows, row_pen_after, row_pen_back, screen_pen_after, screen_pen_back}
+use Rattle.cept_profile.specs.PageParts.{list_of_rows, row_pen_after, screen_pen_after}
 use Rattle.cept_profile.specs.Pens.{pen_with, fore_in, back_in, flash_in, conceal_in, lined_in, boxed_in, size_in}
 use Rattle.cept_profile.specs.Pens.{invert_in}
-use Rattle.cept_profile.specs.State.{Page, page, page_after, blank_page}
+use Rattle.cept_profile.specs.State.{Page, page_after, blank_page, state}
 use Rattle.cept_profile.specs.Strokes.{strokes_back, strokes_in}
 use Rattle.cept_profile.proofs.CarriedRows.{pen_of_row, row_pen_after-from}
 use Rattle.cept_profile.proofs.OneMoreState.{page_back-drawn}
+use Rattle.cept_profile.proofs.PartsByStrokes.{row_pen_back, screen_pen_back}
 
 -- ---- an attribute says of each class what a pen with it has
 
@@ -95,13 +96,13 @@ last_first : (history : List Command) → strokes_back (reverse history) ≡ rev
 last_first history = sym (reverse-reverse (strokes_back (reverse history)))
 
 pub row_pens-said : (history : List Command)
-    → (page history).row_pens ≡ list_of_rows (row_attributes (reverse (strokes_in history)))
+    → (state history).page.row_pens ≡ list_of_rows (row_attributes (reverse (strokes_in history)))
 row_pens-said history =
     (λ i. list_of_rows (λ r. row_pen_back-said (strokes_back (reverse history)) r i))
     ∙ ap (λ (all : List Stroke). list_of_rows (row_attributes all)) (last_first history)
 
 pub screen_pen-said : (history : List Command)
-    → (page history).screen_pen ≡ screen_attributes (reverse (strokes_in history))
+    → (state history).page.screen_pen ≡ screen_attributes (reverse (strokes_in history))
 screen_pen-said history =
     screen_pen_back-said (strokes_back (reverse history)) ∙ ap screen_attributes (last_first history)
 

@@ -25,10 +25,17 @@ pub use Rattle.cept_profile.proofs.MarkedPlaces.{marked_looks_below-none, marked
 pub use Rattle.cept_profile.proofs.MarkedPlaces.{marked_looks_below-unmarked, marked_looks_below-rest}
 pub use Rattle.cept_profile.proofs.MarkedPlaces.{marked_looks_below-whole}
 -- ---- copies_are_written_in_turn
-pub use Rattle.cept_profile.proofs.CopiesOfSigns.{control_after_copies-none, strokes_of_copies-none}
-pub use Rattle.cept_profile.proofs.CopiesOfSigns.{control_after_copies-more, strokes_of_copies-more}
+pub use Rattle.cept_profile.proofs.CopiesOfSigns.{effect_of_copies-none, effect_of_copies-more}
 pub use Rattle.cept_profile.proofs.CopiesOfSigns.{length-strokes_of_copies, length-strokes_of_copies-unscrolled}
-pub use Rattle.cept_profile.proofs.CopiesOfSigns.{control_with-control_after_copies}
+-- ---- what a command makes of control, and its strokes: names of the halves of effects
+pub use Rattle.cept_profile.proofs.Halves.{above_strokes, back_strokes, below_strokes, columns_of_sign, control_after_copies}
+pub use Rattle.cept_profile.proofs.Halves.{control_after_service, control_effect, effect_of_repeat, flashing, on_strokes}
+pub use Rattle.cept_profile.proofs.Halves.{revealing, strokes_of_copies, strokes_of_function, strokes_of_marker, strokes_of_read, strokes_of_repeat}
+pub use Rattle.cept_profile.proofs.Halves.{strokes_of_sign, strokes_when, working_after_function, working_after_marker}
+pub use Rattle.cept_profile.proofs.Halves.{working_after_read, working_after_repeat, working_after_sign, working_ahead}
+-- ---- each motion by where it may go
+pub use Rattle.cept_profile.proofs.MotionStrokes.{above-at, ahead-at, back-at, below-at}
+pub use Rattle.cept_profile.proofs.MotionStrokes.{by_above_strokes, by_back_strokes, by_below_strokes, by_on_strokes}
 -- ---- rows_that_are_not_reached_keep_their_looks
 pub use Rattle.cept_profile.proofs.RowsReached.{look-not_reached, row_before-not_reached, reaches-by}
 pub use Rattle.cept_profile.proofs.RowsReached.{rows_in_reach-counted, rows_in_reach-le}

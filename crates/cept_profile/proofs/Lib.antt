@@ -74,3 +74,4 @@ mod WorkedOldValues
 mod WorkedNoted
 mod WorkedRowNames
 mod WhatComputes
+mod Halves

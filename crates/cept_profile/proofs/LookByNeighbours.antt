@@ -8,8 +8,8 @@ use Rattle.cept_codes.specs.declared.attribute.Size.{Size}
 use Rattle.cept_codes.specs.declared.attribute.Size.TheVariants as sizes
 use Rattle.cept_codes.specs.declared.look.Look.{Look}
 use Rattle.cept_codes.specs.declared.look.Part.{Part}
-use Rattle.cept_profile.specs.Look.{look_of_origin, look_with_part, part_of}
-use Rattle.cept_profile.specs.RowsFromAbove.{covering, look_by, look_from}
+use Rattle.cept_profile.specs.Look.{part_of}
+use Rattle.cept_profile.specs.RowsFromAbove.{covering, look_by, look_from, look_of_origin, look_with_part}
 use Rattle.cept_profile.specs.Tiling.{covers_below, covers_right, is_covered_from_left, is_high, is_wide}
 use Rattle.cept_profile.specs.Tiling.{origin_part, part_by, single_part}
 

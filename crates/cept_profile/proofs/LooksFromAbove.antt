@@ -13,11 +13,10 @@ use Rattle.cept_codes.specs.Place.{OnScreen}
 use Rattle.cept_codes.specs.Same.{same_look}
 use Rattle.cept_codes.specs.Table.{IsTable}
 use Rattle.cept_codes.proofs.Laws.{look_decides}
-use Rattle.cept_profile.specs.Look.{look, look_in_row, look_with_part, looks_of, own_look, own_size}
-use Rattle.cept_profile.specs.Look.{look_of_origin, part_of, parts_of}
+use Rattle.cept_profile.specs.Look.{look, look_in_row, looks_of, own_look, own_size}
+use Rattle.cept_profile.specs.Look.{part_of, parts_of}
 use Rattle.cept_profile.specs.RowsFromAbove.{covering, is_covered_otherwise, is_other_covering, look_by, look_seen}
-use Rattle.cept_profile.specs.RowsFromAbove.{looks_in}
-use Rattle.cept_profile.specs.RowsFromAbove.{row_from_above}
+use Rattle.cept_profile.specs.RowsFromAbove.{look_of_origin, look_with_part, looks_in, row_from_above}
 use Rattle.cept_profile.specs.State.{Core}
 use Rattle.cept_profile.specs.Tiling.{IsTiled, column_entry, covers_below, is_covered_from_left, part_at}
 use Rattle.cept_profile.specs.Tiling.{single_part}

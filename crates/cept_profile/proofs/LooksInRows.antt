@@ -1,7 +1,7 @@
 -- Looks in rows: cells to the right count for nothing, and in a row without markers a cell looks as it does by itself.
-use Rattle.std.proofs.Common.{◌≡◌, ℕ, ◌≤◌, false, Option, Some, None, refl, ap, ◌∙◌, arith}
-use Rattle.std.specs.Prelude.{option_and_then}
-use Rattle.std.proofs.lemmas.Bool.{true≢false}
+use Rattle.std.proofs.Common.{◌≡◌, ◌==◌, ℕ, zero, suc, ◌≤◌, nat_lt, ◌&&◌, ◌||◌, false, Option, Some, None, refl, ap, ◌∙◌, arith}
+use Rattle.std.specs.Option.{option_or}
+use Rattle.std.proofs.lemmas.Bool.{cond_both, true≢false}
 use Rattle.cept_codes.specs.declared.attribute.Pen.{Pen}
 use Rattle.cept_codes.specs.declared.attribute.Size.{Size}
 use Rattle.cept_codes.specs.declared.attribute.Size.TheVariants as sizes
@@ -13,14 +13,14 @@ use Rattle.cept_codes.specs.Table.{table}
 use Rattle.cept_profile.specs.Attributes.{cascade, first_value}
 use Rattle.cept_profile.specs.Definitions.{Definitions}
 use Rattle.cept_profile.specs.Look.{attributes_of, is_double, is_double_set, look, look_in_row, look_of, look_with}
-use Rattle.cept_profile.specs.Look.{look_of_origin, looks_of, own_look, own_size, sets_double_size, shape_in, shape_of}
+use Rattle.cept_profile.specs.Look.{looks_of, own_look, own_size, sets_double_size, shape_in}
 use Rattle.cept_profile.specs.Look.{size_in_row}
 use Rattle.cept_profile.specs.PageParts.{paint_in}
-use Rattle.cept_profile.specs.Serial.{acts, column_in_force, held_sign, is_marker, own_attributes}
-use Rattle.cept_profile.specs.Serial.{own_attributes_of, said, serial_attributes, size_said}
+use Rattle.cept_profile.specs.Serial.{acting, acts_there, fore_at, held_sign, is_marker, marker_pen, nearest_said}
+use Rattle.cept_profile.specs.Serial.{own_attributes, own_attributes_of, serial_attributes}
+use Rattle.cept_profile.specs.RowsFromAbove.{look_of_origin}
 use Rattle.cept_profile.specs.State.{Core}
-use Rattle.cept_profile.proofs.MarkersInForce.{IsGreatest, column_in_force-greatest, held_sign-alike}
-use Rattle.cept_profile.proofs.MarkersInForce.{serial_attributes-alike, serial_attributes-unmarked}
+use Rattle.cept_profile.proofs.MarkersInForce.{held_sign-alike, serial_attributes-alike, serial_attributes-unmarked}
 use Rattle.cept_profile.specs.Edges.{edges_of_core, is_last}
 use Rattle.cept_profile.specs.Tiling.{part_at, tiled_table}
 
@@ -52,11 +52,6 @@ size_in_row-alike f g pen screen c low same =
 plain-none : (row : ℕ → What) (c : ℕ) → is_marker (row c) ≡ false → held_sign row c ≡ None
 plain-none row c plain = rw plain refl
 
--- what is no marker is drawn as itself
-shape-plain : (defined : Definitions) (w : What) → is_marker w ≡ false → shape_in defined w None ≡ shape_of defined w
-shape-plain defined (whats.Marker m) plain = refl
-shape-plain defined w plain = refl
-
 own-plain : (pen screen : Pen) (w : What) → own_attributes_of w pen screen (cascade unset_pen pen screen)
     ≡ attributes_of pen screen w
 own-plain pen screen (whats.Parallel g p) = refl
@@ -71,10 +66,9 @@ look_in_row-unmarked defined row pen screen c low plain =
     let here : is_marker (row c) ≡ false = plain c low (omega arith) in
     ap (λ o. look_with (paint_in defined.paints) (shape_in defined (row c) o) (own_attributes row pen screen c))
     (plain-none row c here)
-    ∙ ap (λ s. look_with (paint_in defined.paints) s (own_attributes row pen screen c)) (shape-plain defined (row c) here)
-    ∙ ap (λ f. look_with (paint_in defined.paints) (shape_of defined (row c)) (own_attributes_of (row c) pen screen f))
+    ∙ ap (λ f. look_with (paint_in defined.paints) (shape_in defined (row c) None) (own_attributes_of (row c) pen screen f))
     (serial_attributes-unmarked row pen screen c low plain)
-    ∙ ap (λ f. look_with (paint_in defined.paints) (shape_of defined (row c)) f) (own-plain pen screen (row c))
+    ∙ ap (λ f. look_with (paint_in defined.paints) (shape_in defined (row c) None) f) (own-plain pen screen (row c))
 
 -- ---- rows without sizes
 
@@ -92,17 +86,23 @@ single-first None None (Some size) here row all = single-size size all
 single-first None None None here row all = refl
 
 -- what sets no size says none, or the single one
-single-said : (w : What) → sets_double_size w ≡ false → is_double_set (size_said w) ≡ false
-single-said (whats.Marker (markers.Size size)) plain = plain
-single-said w plain = refl
+single-said : (fore : ℕ) (w : What) → sets_double_size w ≡ false → is_double_set (marker_pen fore w).size ≡ false
+single-said fore (whats.Marker (markers.Size size)) plain = plain
+single-said fore (whats.Marker m) plain = refl
+single-said fore w plain = refl
 
--- so does what is found among such
-single-found : (row : ℕ → What) (c : ℕ) (found : Option ℕ) → ((d : ℕ) → 1 ≤ d → d ≤ c
-    → sets_double_size (row d) ≡ false)
-    → IsGreatest (acts row (said size_said) c) c found
-    → is_double_set (option_and_then (λ d. size_said (row d)) found) ≡ false
-single-found row c None plain greatest = refl
-single-found row c (Some d) plain greatest = single-said (row d) (plain d greatest.0 greatest.1)
+single-either : (a b : Option Size) → is_double_set a ≡ false → is_double_set b ≡ false
+    → is_double_set (option_or a b) ≡ false
+single-either None b first second = second
+single-either (Some size) b first second = first
+
+-- so does what is said nearest among such
+single-nearest : (says : ℕ → Option Size) (c : ℕ) → ((d : ℕ) → 1 ≤ d → d ≤ c → is_double_set (says d) ≡ false)
+    → is_double_set (nearest_said says c) ≡ false
+single-nearest says zero plain = refl
+single-nearest says (suc c) plain =
+    single-either (says (suc c)) (nearest_said says c) (plain (suc c) (omega arith) (omega arith))
+    (single-nearest says c (λ d low high. plain d low (omega arith)))
 
 serial-single : (row : ℕ → What) (pen screen : Pen) (c : ℕ) → ((d : ℕ) → 1 ≤ d → d ≤ c
     → sets_double_size (row d) ≡ false)
@@ -110,8 +110,13 @@ serial-single : (row : ℕ → What) (pen screen : Pen) (c : ℕ) → ((d : ℕ)
     → (serial_attributes row pen screen c).size ≡ sizes.Normal
 unfolding serial_attributes
 serial-single row pen screen c plain in_row on_screen =
-    single-first (option_and_then (λ d. size_said (row d)) (column_in_force row (said size_said) c)) pen.size screen.size
-    (single-found row c (column_in_force row (said size_said) c) plain (column_in_force-greatest row (said size_said) c)) in_row on_screen
+    let says : ℕ → Option Size = λ d. (marker_pen (fore_at row pen screen d) (acting row c d)).size in
+    single-first (nearest_said says c) pen.size screen.size
+    (single-nearest says c (λ d low high.
+    cond_both (nat_lt d c || (d == c && acts_there (row d))) (row d) whats.Blank
+    (λ w. is_double_set (marker_pen (fore_at row pen screen d) w).size ≡ false)
+    (λ acts. single-said (fore_at row pen screen d) (row d) (plain d low high)) (λ acts. refl)))
+    in_row on_screen
 
 own-single : (row : ℕ → What) (pen screen : Pen) (c : ℕ) (w : What) → sets_double_size w ≡ false
     → is_double_set pen.size ≡ false → is_double_set screen.size ≡ false

@@ -9,9 +9,9 @@ use Rattle.cept_codes.specs.Look.{blank_look}
 use Rattle.cept_codes.specs.Place.{OnScreen}
 use Rattle.cept_codes.specs.Table.{IsTable, table}
 use Rattle.cept_codes.proofs.Laws.{IsTable-table}
-use Rattle.cept_profile.specs.Look.{look_of_origin, look_with_part, part_of}
+use Rattle.cept_profile.specs.Look.{part_of}
 use Rattle.cept_profile.specs.RowsFromAbove.{blank_looks, covering, look_by, look_from, look_seen, looks_in}
-use Rattle.cept_profile.specs.RowsFromAbove.{row_from_above}
+use Rattle.cept_profile.specs.RowsFromAbove.{look_of_origin, look_with_part, row_from_above}
 use Rattle.cept_profile.specs.Tiling.{IsTiled, column_entry, covers_below, part_at}
 use Rattle.cept_profile.specs.Tiling.{part_by, single_part}
 use Rattle.cept_profile.proofs.ColumnEntries.{IsOff, column_entry-map, column_entry-row_of, column_entry-table}

@@ -1,8 +1,8 @@
 -- Laws of serial attributes.
-use Rattle.std.proofs.Common.{◌≡◌, ℕ, ◌≤◌, ◌<◌, zero, suc, Bool, true, false, ◌&&◌, Option, Some, None, MatchOption}
-use Rattle.std.proofs.Common.{IfSome, eqb, ltb, refl, sym, ◌∙◌, ap, subst, inl, inr, arith, rules}
-use Rattle.std.proofs.lemmas.Bool.{cases_eq, cases_lt, cond_both}
-use Rattle.std.proofs.lemmas.Bool.Decides.{nat_tests}
+use Rattle.std.proofs.Common.{◌≡◌, ℕ, ◌≤◌, ◌<◌, zero, suc, false, ◌&&◌, Option, Some, None, MatchOption}
+use Rattle.std.proofs.Common.{IfSome, refl, sym, ◌∙◌, ap, subst, inl, inr, arith, rules}
+use Rattle.std.specs.Option.{option_or}
+use Rattle.std.proofs.lemmas.Bool.{cases_eq, cond_both}
 use Rattle.cept_codes.specs.declared.attribute.Full.{Full}
 use Rattle.cept_codes.specs.declared.attribute.Pen.{Pen}
 use Rattle.cept_codes.specs.declared.cell.Marker.{Marker}
@@ -14,70 +14,38 @@ use Rattle.cept_codes.specs.Attribute.{IsValidFull, IsValidPen, IsEntry, unset_p
 use Rattle.cept_codes.specs.Cell.{IsValidMarker, IsValidWhat}
 use Rattle.cept_codes.specs.Glyph.{IsValidGlyph}
 use Rattle.cept_profile.specs.Attributes.{cascade, first_value}
-use Rattle.cept_profile.specs.Serial.{acts, acts_there, held_sign, column_in_force, is_marker, is_mosaic, mosaic_of}
-use Rattle.cept_profile.specs.Serial.{nearest_column, serial_attributes}
+use Rattle.cept_profile.specs.Serial.{acts_there, held_sign, is_marker, is_mosaic, mosaic_of, nearest_said, serial_attributes}
 use Rattle.cept_profile.specs.Influence.{Influence, influence_after, influence, held_sign_in, influence_in, kept_sign_after, full_after}
 use Rattle.cept_profile.proofs.OneMoreCell.{influence-start, influence-suc, serial_attributes-suc, held_sign-suc, unmarked}
 use Rattle.cept_profile.proofs.OneMoreCell.{in_plain}
 
--- ---- the greatest column
+-- ---- what is said nearest
 
--- the greatest column up to c of which something is so, if there is one
-abbrev pub IsGreatest : (ℕ → Bool) → ℕ → Option ℕ → Type 0
-IsGreatest p c found =
-    MatchOption found ((d : ℕ) → 1 ≤ d → d ≤ c → p d ≡ false)
-    (λ d. (1 ≤ d) × (d ≤ c) × (p d ≡ true) × ((e : ℕ) → d < e → e ≤ c → p e ≡ false))
+-- what is said in the greatest column up to c in which anything is said, if there is one
+abbrev IsNearest : {X : Type 0} → (ℕ → Option X) → ℕ → Option X → Type 0
+IsNearest says c found =
+    MatchOption found ((d : ℕ) → 1 ≤ d → d ≤ c → says d ≡ None)
+    (λ x. (d : ℕ) × (1 ≤ d) × (d ≤ c) × (says d ≡ Some x) × ((e : ℕ) → d < e → e ≤ c → says e ≡ None))
 
-further : (p : ℕ → Bool) (c d : ℕ) → p (suc c) ≡ false → (d ≤ c → p d ≡ false) → d ≤ suc c → p d ≡ false
-further p c d miss before h =
+further : {X : Type 0} (says : ℕ → Option X) (c d : ℕ) → says (suc c) ≡ None → (d ≤ c → says d ≡ None) → d ≤ suc c
+    → says d ≡ None
+further says c d miss before h =
     elim (cases_eq d (suc c)) [ inl e ↦ rw e miss | inr other ↦ before (omega arith) ]
 
-one_less : (p : ℕ → Bool) (c : ℕ) (found : Option ℕ) → p (suc c) ≡ false → IsGreatest p c found
-    → IsGreatest p (suc c) found
-one_less p c None miss h = λ d low high. further p c d miss (h d low) high
-one_less p c (Some d) miss h = (h.0, omega (arith, h.1), h.2, λ e low high. further p c e miss (h.3 e low) high)
+one_less : {X : Type 0} (says : ℕ → Option X) (c : ℕ) (found : Option X) → says (suc c) ≡ None → IsNearest says c found
+    → IsNearest says (suc c) found
+one_less says c None miss h = λ d low high. further says c d miss (h d low) high
+one_less says c (Some x) miss h =
+    (h.0, h.1, omega (arith, h.2), h.3, λ e low high. further says c e miss (h.4 e low) high)
 
-nearest_column-greatest : (p : ℕ → Bool) (c : ℕ) → IsGreatest p c (nearest_column p c)
-nearest_column-greatest p zero = λ d low high. absurd (omega arith)
-nearest_column-greatest p (suc c) =
-    cond_both (p (suc c)) (Some (suc c)) (nearest_column p c) (IsGreatest p (suc c))
-    (λ hit. (omega arith, omega arith, hit, λ e low high. absurd (omega arith)))
-    (λ miss. one_less p c (nearest_column p c) miss (nearest_column-greatest p c))
+one_more : {X : Type 0} (says : ℕ → Option X) (c : ℕ) (here : Option X) → says (suc c) ≡ here
+    → IsNearest says c (nearest_said says c) → IsNearest says (suc c) (option_or here (nearest_said says c))
+one_more says c None miss h = one_less says c (nearest_said says c) miss h
+one_more says c (Some x) hit h = (suc c, omega arith, omega arith, hit, λ e low high. absurd (omega arith))
 
-pub column_in_force-greatest : (row : ℕ → What) (class : What → Bool) (c : ℕ)
-    → IsGreatest (acts row class c) c (column_in_force row class c)
-unfolding column_in_force
-column_in_force-greatest row class c = nearest_column-greatest (acts row class c) c
-
-and-false : (b : Bool) → (b && false) ≡ false
-and-false true = refl
-and-false false = refl
-
--- to the right of a column no marker acts at it
-none_beyond : (row : ℕ → What) (class : What → Bool) (c d : ℕ) → c < d → acts row class c d ≡ false
-none_beyond row class c d past =
-    let right : ltb d c ≡ false = grind (arith, nat_tests) in
-    let other : eqb d c ≡ false = grind (arith, nat_tests) in
-    rw (right, other) (and-false (class (row d)))
-
-none_anywhere : (row : ℕ → What) (class : What → Bool) (c d : ℕ) → (d ≤ c → acts row class c d ≡ false)
-    → acts row class c d ≡ false
-none_anywhere row class c d within =
-    elim (cases_lt c d) [ inl past ↦ none_beyond row class c d past | inr up_to ↦ within (omega arith) ]
-
--- the column found is the greatest of all
-greatest_of_all : (row : ℕ → What) (class : What → Bool) (c : ℕ) (found : Option ℕ) → IsGreatest (acts row class c) c found
-    → MatchOption found ((d : ℕ) → 1 ≤ d → acts row class c d ≡ false)
-    (λ d. (1 ≤ d) × (d ≤ c) × (acts row class c d ≡ true) × ((e : ℕ) → d < e → acts row class c e ≡ false))
-greatest_of_all row class c None none = λ d low. none_anywhere row class c d (none d low)
-greatest_of_all row class c (Some d) is =
-    (is.0, is.1, is.2, λ e past. none_anywhere row class c e (is.3 e past))
-
-pub marker_in_force : (row : ℕ → What) (class : What → Bool) (c : ℕ)
-    → MatchOption (column_in_force row class c) ((d : ℕ) → 1 ≤ d → acts row class c d ≡ false)
-    (λ d. (1 ≤ d) × (d ≤ c) × (acts row class c d ≡ true) × ((e : ℕ) → d < e → acts row class c e ≡ false))
-marker_in_force row class c =
-    greatest_of_all row class c (column_in_force row class c) (column_in_force-greatest row class c)
+pub nearest : {X : Type 0} (says : ℕ → Option X) (c : ℕ) → IsNearest says c (nearest_said says c)
+nearest says zero = λ d low high. absurd (omega arith)
+nearest says (suc c) = one_more says c (says (suc c)) refl (nearest says c)
 
 -- ---- cells to the right
 

@@ -1,7 +1,8 @@
 -- What a place is drawn with: where the entries and the pattern that it names stay, it looks as before.
-use Rattle.std.proofs.Common.{◌≡◌, ℕ, ◌+◌, ◌≤◌, ◌<◌, cond, not, ◌==◌, ◌&&◌, inl, inr, Bool, true, false, List, Option}
-use Rattle.std.proofs.Common.{Some, None, refl, sym, ◌∙◌, ap, arith}
-use Rattle.std.specs.Prelude.{nat_le, nat_lt, option_and_then}
+use Rattle.std.proofs.Common.{◌≡◌, ℕ, zero, suc, ◌+◌, ◌≤◌, ◌<◌, cond, ◌==◌, ◌&&◌, inl, inr, Bool, true, false, List}
+use Rattle.std.proofs.Common.{Option, Some, None, is_none, unwrap_or, refl, sym, ◌∙◌, ap, arith}
+use Rattle.std.specs.Prelude.{nat_le, nat_lt}
+use Rattle.std.specs.Option.{option_or}
 use Rattle.std.specs.List.{list_any, range_with_len}
 use Rattle.std.proofs.lemmas.Bool.{cases_Bool, cond-false, cond-true, true≢false}
 use Rattle.std.proofs.lemmas.Bool.Decides.{nat_tests}
@@ -16,14 +17,13 @@ use Rattle.cept_codes.specs.declared.look.Pattern.{Pattern}
 use Rattle.cept_codes.specs.declared.look.Shape.{Shape}
 use Rattle.cept_codes.specs.declared.look.Shape.TheVariants as shapes
 use Rattle.cept_codes.proofs.Laws.{same_indexed}
-use Rattle.cept_profile.specs.Colours.{back_paint, fore_paint, paint_over}
+use Rattle.cept_profile.specs.Colours.{paint_over}
 use Rattle.cept_profile.specs.Definitions.{Definitions, inks_of, inks_with}
 use Rattle.cept_profile.specs.Look.{look_with, shape_in, shape_in_set, shape_of_sign}
 use Rattle.cept_profile.specs.Names.{code_in_set, code_named, is_code, is_ink_of, pattern_shown, shows_ink_of}
 use Rattle.cept_profile.specs.Names.{shows_two_planes}
 use Rattle.cept_profile.specs.PageParts.{dclut_in, paint_in, pattern_in}
-use Rattle.cept_profile.specs.Serial.{held_sign, is_holding, is_marker, is_mosaic, kept_sign, mosaic_of}
-use Rattle.cept_profile.specs.Serial.{is_sized_since, nearest_column}
+use Rattle.cept_profile.specs.Serial.{held_sign, is_holding, is_marker, is_mosaic, kept_sign, marker_pen, mosaic_of, nearest_said}
 use Rattle.cept_profile.proofs.ColumnEntries.{no_index}
 
 -- a test that one of n numbers passes is passed by some
@@ -187,23 +187,31 @@ mosaic_of-mosaic (whats.Serial h) g is = mosaic_chosen h g (is_mosaic h.set) ref
     mosaic_chosen h g false mosaic is = absurd (cc)
 mosaic_of-mosaic _ g is = absurd (cc)
 
--- what is found is of a mosaic set, where all that may be found are
-found-mosaic : (says : ℕ → Option Glyph) (found : Option ℕ) (g : Glyph)
-    → ((d : ℕ) (h : Glyph) → says d ≡ Some h → is_mosaic h.set ≡ true) → option_and_then says found ≡ Some g
+unless-mosaic : (b : Bool) (what : What) (g : Glyph) → cond b None (Some (mosaic_of what)) ≡ Some (Some g)
     → is_mosaic g.set ≡ true
-found-mosaic says None g all is = absurd (cc)
-found-mosaic says (Some d) g all is = all d g is
-
-unless-mosaic : (b : Bool) (what : What) (g : Glyph) → cond b None (mosaic_of what) ≡ Some g → is_mosaic g.set ≡ true
 unless-mosaic true what g is = absurd (cc)
-unless-mosaic false what g is = mosaic_of-mosaic what g is
+unless-mosaic false what g is = let same : mosaic_of what ≡ Some g = cc in mosaic_of-mosaic what g same
+
+either-mosaic : (a b : Option (Option Glyph)) (g : Glyph) → (a ≡ Some (Some g) → is_mosaic g.set ≡ true)
+    → (unwrap_or b None ≡ Some g → is_mosaic g.set ≡ true)
+    → unwrap_or (option_or a b) None ≡ Some g → is_mosaic g.set ≡ true
+either-mosaic None b g first second is = second is
+either-mosaic (Some found) b g first second is = first (ap Some is)
+
+-- what is said nearest is of a mosaic set, where all that may be said is
+nearest-mosaic : (says : ℕ → Option (Option Glyph)) (c : ℕ) (g : Glyph)
+    → ((d : ℕ) → says d ≡ Some (Some g) → is_mosaic g.set ≡ true)
+    → unwrap_or (nearest_said says c) None ≡ Some g → is_mosaic g.set ≡ true
+nearest-mosaic says zero g all is = absurd (cc)
+nearest-mosaic says (suc c) g all is =
+    either-mosaic (says (suc c)) (nearest_said says c) g (all (suc c)) (nearest-mosaic says c g all) is
 
 kept_sign-mosaic : (row : ℕ → What) (c : ℕ) (g : Glyph) → kept_sign row c ≡ Some g → is_mosaic g.set ≡ true
 unfolding kept_sign
 kept_sign-mosaic row c g is =
-    found-mosaic (λ d. cond (is_sized_since row d c) None (mosaic_of (row d)))
-    (nearest_column (λ d. not (is_marker (row d))) c) g
-    (λ d h said. unless-mosaic (is_sized_since row d c) (row d) h said) is
+    nearest-mosaic
+    (λ d. cond (is_marker (row d) && is_none (marker_pen 0 (row d)).size) None (Some (mosaic_of (row d)))) c g
+    (λ d said. unless-mosaic (is_marker (row d) && is_none (marker_pen 0 (row d)).size) (row d) g said) is
 
 -- a held sign is one of a mosaic set
 pub held_sign-mosaic : (row : ℕ → What) (c : ℕ) (g : Glyph) → held_sign row c ≡ Some g → is_mosaic g.set ≡ true
@@ -228,9 +236,11 @@ pub look-kept : (before after : Definitions) (f : Full) (row : ℕ → What) (c 
     → look_with (paint_in after.paints) (shape_in after (row c) (held_sign row c)) f
     ≡ look_with (paint_in before.paints) (shape_in before (row c) (held_sign row c)) f
 look-kept before after f row c kept =
-    let back : back_paint (paint_in after.paints) f ≡ back_paint (paint_in before.paints) f =
+    let behind : ℕ = cond f.invert f.fore f.back in
+    let ahead : ℕ = cond f.invert f.back f.fore in
+    let back : paint_in after.paints behind ≡ paint_in before.paints behind =
     paint_chosen after.paints before.paints f.invert f.fore f.back kept.fore kept.back in
-    let fore : fore_paint (paint_in after.paints) f ≡ fore_paint (paint_in before.paints) f =
+    let fore : paint_in after.paints ahead ≡ paint_in before.paints ahead =
     paint_chosen after.paints before.paints f.invert f.back f.fore kept.back kept.fore in
     let shape : shape_in after (row c) (held_sign row c) ≡ shape_in before (row c) (held_sign row c) =
     shape_in-kept before after f (row c) (held_sign row c) (held_sign-mosaic row c) kept in

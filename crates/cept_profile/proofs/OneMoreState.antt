@@ -3,11 +3,10 @@ use Rattle.std.proofs.Common.{◌≡◌, List, [], ◌∷◌, ◌++◌, reverse,
 use Rattle.cept_codes.specs.declared.command.Command.{Command}
 use Rattle.cept_codes.specs.declared.stroke.Stroke.{Stroke}
 use Rattle.cept_codes.specs.Command.{IsValidCommand}
-use Rattle.cept_profile.specs.Cells.{cell_back}
 use Rattle.std.specs.List.{AllByRecursion}
 use Rattle.cept_codes.specs.Stroke.{IsValidStroke}
 use Rattle.cept_profile.specs.Control.{ControlState, control, control_after, control_back}
-use Rattle.cept_profile.specs.State.{Page, State, page, page_back, state, blank_page, page_after, state_after}
+use Rattle.cept_profile.specs.State.{Page, State, page_back, state, blank_page, page_after, state_after}
 use Rattle.cept_profile.specs.Strokes.{strokes_back, strokes_of, strokes_in}
 use Rattle.cept_profile.specs.Valid.{AllValid, IsValidControl}
 use Rattle.cept_profile.proofs.ValidControl.{IsValidControl-control_after, IsValidControl-initial_control}
@@ -58,7 +57,7 @@ IsValidStroke-strokes_back (command ∷ earlier) all =
 
 -- the page of one more command
 pub page-one_more : (history : List Command) (command : Command) → AllValid history → IsValidCommand command
-    → page (history ++ command ∷ []) ≡ page_after (page history) (strokes_of (control history) command)
+    → (state (history ++ command ∷ [])).page ≡ page_after (state history).page (strokes_of (control history) command)
 page-one_more history command valid_history valid =
     ap (λ (commands : List Command). page_back (strokes_back commands)) (reverse-one_more history command)
     ∙ page_back-page_after (strokes_of (control history) command) (strokes_back (reverse history))
@@ -78,19 +77,18 @@ pub state-one_more : (history : List Command) (command : Command) → AllValid h
 state-one_more history command valid_history valid =
     ap (λ (p : Page). let s : State = record { page = p; control = control (history ++ command ∷ []) } in s)
     (page-one_more history command valid_history valid)
-    ∙ ap (λ (k : ControlState). let s : State = assumption (page_after (page history) (strokes_of (control history) command)) in s)
+    ∙ ap (λ (k : ControlState). let s : State = assumption (page_after (state history).page (strokes_of (control history) command)) in s)
     (control-one_more history command)
 
 -- looking back over valid strokes gives the blank page with each drawn after the other
 pub page_back-drawn : (strokes : List Stroke) → AllByRecursion IsValidStroke strokes
     → page_back (reverse strokes) ≡ page_after blank_page strokes
-unfolding cell_back
 page_back-drawn strokes valid =
     ap page_back (sym (append-nil (reverse strokes))) ∙ page_back-page_after strokes [] valid
 
 -- the page by looking back is the blank page with all strokes drawn one after the other
 pub page-page_after : (history : List Command) → AllValid history
-    → page history ≡ page_after blank_page (strokes_in history)
+    → (state history).page ≡ page_after blank_page (strokes_in history)
 page-page_after history valid =
     ap page_back (sym (reverse-reverse (strokes_back (reverse history))))
     ∙ page_back-drawn (strokes_in history) (AllByRecursion-reverse IsValidStroke (strokes_back (reverse history))

@@ -1,5 +1,5 @@
 -- The parts of the page beside its cells: by looking back each is what one stroke after the other makes of it.
-use Rattle.std.proofs.Common.{◌≡◌, ℕ, ◌≤◌, Bool, true, false, cond, eqb, None, unwrap_or, List, [], ◌∷◌, ◌++◌}
+use Rattle.std.proofs.Common.{◌≡◌, ℕ, ◌≤◌, cond, eqb, None, List, [], ◌∷◌, ◌++◌}
 use Rattle.std.proofs.Common.{Option, Some, reverse, refl, sym, ◌∙◌, ap, append_assoc, arith}
 use Rattle.std.specs.List.{AllByRecursion}
 use Rattle.std.proofs.lemmas.List.{reverse-append}
@@ -12,47 +12,37 @@ use Rattle.cept_codes.specs.Attribute.{unset_pen}
 use Rattle.cept_codes.specs.Look.{black_paint}
 use Rattle.cept_codes.specs.Stroke.{IsRow, IsValidStroke}
 use Rattle.cept_codes.proofs.Laws.{entry-list_by_index, same_indexed}
-use Rattle.cept_profile.specs.PageParts.{row_pen_back, screen_pen_back, paint_back, dclut_back, row_pen_after}
-use Rattle.cept_profile.specs.PageParts.{screen_pen_after, paint_after, dclut_after, list_of_rows, list_of_colours}
-use Rattle.cept_profile.specs.PageParts.{list_of_dclut, row_pen_in, paint_in, dclut_in, row_pens_after, paints_after}
-use Rattle.cept_profile.specs.PageParts.{dclut_list_after, list_of_codes, part_after_all, pattern_after, pattern_back}
-use Rattle.cept_profile.specs.PageParts.{pattern_in, patterns_after}
+use Rattle.cept_profile.specs.Colours.{default_paint}
+use Rattle.cept_profile.specs.PageParts.{left_by, row_pen_after, screen_pen_after, paint_after, dclut_after, pattern_after}
+use Rattle.cept_profile.specs.PageParts.{list_of_rows, list_of_colours, list_of_dclut, list_of_codes, part_after_all}
+use Rattle.cept_profile.specs.PageParts.{row_pen_in, paint_in, dclut_in, pattern_in, row_pens_after, paints_after}
+use Rattle.cept_profile.specs.PageParts.{dclut_list_after, patterns_after}
 use Rattle.cept_profile.specs.MovedRows.{moved_rows, row_before_move}
 use Rattle.cept_profile.proofs.CarriedRows.{pen_of_row, row_pen_after-from}
 use Rattle.cept_profile.specs.Pens.{pen_with}
 use Rattle.cept_profile.proofs.RowsMoved.{row_before_one-on}
 
--- ---- one more stroke, entry by entry
+-- ---- the parts that strokes leave
 
-pub row_pen_back-more : (stroke : Stroke) (earlier : List Stroke) (r : ℕ) → row_pen_back (stroke ∷ earlier) r
-    ≡ row_pen_after stroke (row_pen_back earlier) r
-row_pen_back-more stroke earlier r = refl
+-- the attributes of row r after the strokes, the last first
+abbrev pub row_pen_back : List Stroke → ℕ → Pen
+row_pen_back strokes = left_by row_pen_after (λ r. unset_pen) strokes
 
-pub screen_pen_back-more : (stroke : Stroke) (earlier : List Stroke) → screen_pen_back (stroke ∷ earlier)
-    ≡ screen_pen_after (screen_pen_back earlier) stroke
-screen_pen_back-more stroke earlier = refl
+-- those of the screen
+abbrev pub screen_pen_back : List Stroke → Pen
+screen_pen_back strokes = left_by (λ stroke was. screen_pen_after was stroke) unset_pen strokes
 
--- what is said of an entry by its number, where it counts
-said-cond : {X : Type 0} (counts : Bool) (x was : X) → unwrap_or (cond counts (Some x) None) was
-    ≡ cond counts x was
-said-cond true x was = refl
-said-cond false x was = refl
+-- the paint of the colour entry i
+abbrev pub paint_back : List Stroke → ℕ → Paint
+paint_back strokes = left_by paint_after default_paint strokes
 
-pub paint_back-more : (stroke : Stroke) (earlier : List Stroke) (i : ℕ) → paint_back (stroke ∷ earlier) i
-    ≡ paint_after stroke (paint_back earlier) i
-paint_back-more (strokes.Colour j paint) earlier i = said-cond (eqb j i) paint (paint_back earlier i)
-paint_back-more _ earlier i = refl
+-- the DCLUT entry i
+abbrev pub dclut_back : List Stroke → ℕ → ℕ
+dclut_back strokes = left_by dclut_after (λ i. i) strokes
 
-pub dclut_back-more : (stroke : Stroke) (earlier : List Stroke) (i : ℕ) → dclut_back (stroke ∷ earlier) i
-    ≡ dclut_after stroke (dclut_back earlier) i
-dclut_back-more (strokes.Dclut j v) earlier i = said-cond (eqb j i) v (dclut_back earlier i)
-dclut_back-more _ earlier i = refl
-
-pub pattern_back-more : (stroke : Stroke) (earlier : List Stroke) (d : ℕ) → pattern_back (stroke ∷ earlier) d
-    ≡ pattern_after stroke (pattern_back earlier) d
-pattern_back-more (strokes.Drcs code pattern) earlier d =
-    said-cond (eqb code d) (Some pattern) (pattern_back earlier d)
-pattern_back-more _ earlier d = refl
+-- the pattern of a code
+abbrev pub pattern_back : List Stroke → ℕ → Option Pattern
+pattern_back strokes = left_by pattern_after (λ d. None) strokes
 
 -- ---- what a stroke makes of an entry comes from that entry
 
@@ -101,8 +91,7 @@ row_pens-more : (stroke : Stroke) (earlier : List Stroke) → IsValidStroke stro
 row_pens-more stroke earlier valid =
     let was : ℕ → Pen = row_pen_in (list_of_rows (row_pen_back earlier)) in
     same_indexed 1 24 (row_pen_back (stroke ∷ earlier)) (row_pen_after stroke was) (λ r low high.
-    row_pen_back-more stroke earlier r
-    ∙ row_pen_after-same stroke (row_pen_back earlier) was valid
+    row_pen_after-same stroke (row_pen_back earlier) was valid
     (λ q from to. sym (entry-list_by_index unset_pen 1 24 (row_pen_back earlier) q from (omega (arith, to)))) r low
     (omega (arith, high)))
 
@@ -111,7 +100,7 @@ paints-more : (stroke : Stroke) (earlier : List Stroke) → list_of_colours (pai
 paints-more stroke earlier =
     let was : ℕ → Paint = paint_in (list_of_colours (paint_back earlier)) in
     same_indexed 0 32 (paint_back (stroke ∷ earlier)) (paint_after stroke was) (λ i low high.
-    paint_back-more stroke earlier i ∙ paint_after-same stroke (paint_back earlier) was i
+    paint_after-same stroke (paint_back earlier) was i
     (sym (entry-list_by_index black_paint 0 32 (paint_back earlier) i low high)))
 
 dclut-more : (stroke : Stroke) (earlier : List Stroke) → list_of_dclut (dclut_back (stroke ∷ earlier))
@@ -119,7 +108,7 @@ dclut-more : (stroke : Stroke) (earlier : List Stroke) → list_of_dclut (dclut_
 dclut-more stroke earlier =
     let was : ℕ → ℕ = dclut_in (list_of_dclut (dclut_back earlier)) in
     same_indexed 0 4 (dclut_back (stroke ∷ earlier)) (dclut_after stroke was) (λ i low high.
-    dclut_back-more stroke earlier i ∙ dclut_after-same stroke (dclut_back earlier) was i
+    dclut_after-same stroke (dclut_back earlier) was i
     (sym (entry-list_by_index 0 0 4 (dclut_back earlier) i low high)))
 
 patterns-more : (stroke : Stroke) (earlier : List Stroke) → list_of_codes (pattern_back (stroke ∷ earlier))
@@ -127,7 +116,7 @@ patterns-more : (stroke : Stroke) (earlier : List Stroke) → list_of_codes (pat
 patterns-more stroke earlier =
     let was : ℕ → Option Pattern = pattern_in (list_of_codes (pattern_back earlier)) in
     same_indexed 0x21 94 (pattern_back (stroke ∷ earlier)) (pattern_after stroke was) (λ d low high.
-    pattern_back-more stroke earlier d ∙ pattern_after-same stroke (pattern_back earlier) was d
+    pattern_after-same stroke (pattern_back earlier) was d
     (sym (entry-list_by_index None 0x21 94 (pattern_back earlier) d low high)))
 
 -- ---- several more strokes
@@ -165,7 +154,7 @@ row_pens-after_all = valid_after_all row_pens_after (λ all. list_of_rows (row_p
 
 pub screen_pen-after_all : (more earlier : List Stroke) → screen_pen_back (reverse more ++ earlier)
     ≡ part_after_all screen_pen_after (screen_pen_back earlier) more
-screen_pen-after_all = parts_after_all screen_pen_after screen_pen_back screen_pen_back-more
+screen_pen-after_all = parts_after_all screen_pen_after screen_pen_back (λ stroke earlier. refl)
 
 pub paints-after_all : (more earlier : List Stroke) → list_of_colours (paint_back (reverse more ++ earlier))
     ≡ part_after_all paints_after (list_of_colours (paint_back earlier)) more

@@ -7,7 +7,7 @@ use Rattle.cept_codes.specs.declared.stroke.Stroke.{Stroke}
 use Rattle.cept_codes.specs.declared.stroke.Stroke.TheVariants as strokes
 use Rattle.cept_codes.specs.Command.{IsValidCommand}
 use Rattle.cept_profile.specs.Control.{control, control_after, control_back}
-use Rattle.cept_profile.specs.PageParts.{format_back}
+use Rattle.cept_profile.specs.LastSaid.{format_back}
 use Rattle.cept_profile.specs.Strokes.{strokes_back, strokes_in, strokes_of}
 use Rattle.cept_profile.specs.Valid.{AllValid}
 use Rattle.cept_profile.proofs.OneMoreState.{AllByRecursion-reverse, IsValidControl-control_back}

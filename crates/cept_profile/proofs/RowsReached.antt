@@ -28,7 +28,7 @@ use Rattle.cept_codes.specs.Stroke.{IsRow, IsValidStroke}
 use Rattle.cept_codes.specs.Table.{value_at}
 use Rattle.cept_codes.proofs.Laws.{IsTable-table}
 use Rattle.cept_profile.specs.Edges.{edges_of_core, is_last}
-use Rattle.cept_profile.specs.Look.{contents_of_row, look, look_in_row, look_with_part, looks_of, own_look, part_of, parts_of}
+use Rattle.cept_profile.specs.Look.{contents_of_row, look, look_in_row, looks_of, own_look, part_of, parts_of}
 use Rattle.cept_profile.specs.MovedRows.{row_before}
 use Rattle.cept_profile.specs.Names.{code_in_set, code_named, contents_at_origin, full_attributes, is_code, names_at}
 use Rattle.cept_profile.specs.Names.{names_dclut, names_entry, names_pattern, own_attributes_in}
@@ -37,6 +37,7 @@ use Rattle.cept_profile.specs.PageParts.{dclut_in, paint_in, pattern_in, row_pen
 use Rattle.cept_profile.specs.Reach.{LeadsTo, has_other_attributes, is_reached, is_reached_from}
 use Rattle.cept_profile.specs.Reach.{is_redefined, is_written, just_one, reaches, rows_in_reach}
 use Rattle.cept_profile.specs.RowsFromAbove.{covering, is_covered_otherwise, is_other_covering, look_seen, looks_in}
+use Rattle.cept_profile.specs.RowsFromAbove.{look_with_part}
 use Rattle.cept_profile.specs.State.{Core, Page, State, core_of, definitions_of, page_after, state_after}
 use Rattle.cept_profile.specs.Strokes.{strokes_of}
 use Rattle.cept_profile.specs.Tiling.{covers_below, part_at}

@@ -1,6 +1,6 @@
 -- Valid control: the initial state is valid, and every valid command keeps it valid.
 use Rattle.std.proofs.Common.{◌≡◌, ◌⊎◌, ℕ, ◌+◌, ◌-◌, ◌≤◌, ◌&&◌, ◌||◌, zero, suc, Bool, false, min, cond, eqb, leb}
-use Rattle.std.proofs.Common.{rules, Option, Some, None, unwrap_or, inl, inr, refl, subst, arith}
+use Rattle.std.proofs.Common.{rules, Option, Some, None, List, [], unwrap_or, inl, inr, refl, arith}
 use Rattle.std.specs.Prelude.{IfSome}
 use Rattle.std.proofs.lemmas.Bool.{cond_both, eqb-false, leb-true}
 use Rattle.std.proofs.lemmas.Bool.Decides.{nat_tests}
@@ -23,24 +23,26 @@ use Rattle.cept_codes.specs.declared.glyph.SetId.TheVariants as sets
 use Rattle.cept_codes.specs.Attribute.{IsValidAttr, IsValidPen, unset_pen}
 use Rattle.cept_codes.specs.Command.{IsArea, IsGraphic, IsValidCommand}
 use Rattle.cept_codes.specs.Glyph.{IsCodeOf, IsValidGlyph}
+use Rattle.cept_codes.specs.declared.stroke.Stroke.{Stroke}
+use Rattle.cept_codes.specs.declared.command.Up.TheVariants as ways
 use Rattle.cept_codes.specs.Place.{OnScreen}
 use Rattle.cept_profile.specs.Control.{Working, ControlState, initial_control, initial_sets, initial_working}
-use Rattle.cept_profile.specs.Control.{control_with, working_at, working_with_sets}
-use Rattle.cept_profile.specs.Control.{working_without_run, working_without_pen, finds_accent}
-use Rattle.cept_profile.specs.Control.{control_after_service, working_by_default}
-use Rattle.cept_profile.specs.Control.{area_without, state_for_effect, control_effect, control_after}
-use Rattle.cept_profile.specs.Markers.{marker_of, run_after, step_after, working_after_marker}
-use Rattle.cept_profile.specs.Motions.{is_first_of, is_last_of, row_below, row_above, scrolling_area, working_ahead}
-use Rattle.cept_profile.specs.Motions.{working_back}
-use Rattle.cept_profile.specs.Pens.{attribute_of, pen_with, pen_with_any, fast_after}
-use Rattle.cept_profile.specs.Pens.{fast_after_code, flash_of, working_after_function}
+use Rattle.cept_profile.specs.Control.{control_with, working_afresh, working_at, finds_accent}
+use Rattle.cept_profile.specs.Control.{working_by_default}
+use Rattle.cept_profile.specs.Control.{state_for_effect, control_after}
+use Rattle.cept_profile.specs.Markers.{run_after, step_after}
+use Rattle.cept_profile.specs.Motions.{above, below, is_first_of, is_last_of, scrolling_area, strokes_of_scroll}
+use Rattle.cept_profile.specs.Pens.{c1_function, fast_after, flash_of, pen_with}
 use Rattle.cept_profile.specs.Sets.{Sets, IsAccent, IsValidRead, code_of, set_of, sets_with}
 use Rattle.cept_profile.specs.Tiling.{columns_of_size}
 use Rattle.cept_profile.specs.Valid.{AreValidSets, IsValidWorking, IsValidControl}
-use Rattle.cept_profile.specs.Writing.{sign_with_accent, control_after_copies, working_after_read, working_after_repeat}
-use Rattle.cept_profile.specs.Writing.{graphic_read, control_after_shift, columns_of_sign, working_after_sign}
+use Rattle.cept_profile.specs.Writing.{control_after_shift, effect_of_copies, graphic_read, sign_with_accent}
+use Rattle.cept_profile.proofs.Halves.{area_without, control_after_service}
+use Rattle.cept_profile.proofs.Halves.{columns_of_sign, control_after_copies, control_effect, flashing, revealing, working_after_function}
+use Rattle.cept_profile.proofs.Halves.{working_after_marker, working_after_read, working_after_repeat}
+use Rattle.cept_profile.proofs.Halves.{working_above, working_after_sign, working_ahead, working_back, working_below}
 use Rattle.cept_profile.proofs.CodesRead.{IsCode-code_of, IsValidRead-read_as}
-use Rattle.cept_profile.proofs.ValidAttributes.{IsValid-attribute_of}
+use Rattle.cept_profile.proofs.ValidAttributes.{HasValidAttr-c1_function}
 
 pub IsValidPen-unset_pen : IsValidPen unset_pen
 IsValidPen-unset_pen = record { fore = tt; back = tt }
@@ -68,84 +70,17 @@ pub IsWithin-working_at : (rows r c : ℕ) (w : Working) → IsWithin rows w →
     → IsWithin rows (working_at r c w)
 IsWithin-working_at rows r c w is on row = assumption
 
-pub IsWithin-working_without_run : (rows : ℕ) (w : Working) → IsWithin rows w → IsWithin rows (working_without_run w)
-IsWithin-working_without_run rows w is = search rules
-
-pub IsWithin-working_without_pen : (rows : ℕ) (w : Working) → IsWithin rows w → IsWithin rows (working_without_pen w)
-IsWithin-working_without_pen rows w is = search rules
+-- with no run
+pub IsWithin-without_run : (rows : ℕ) (w : Working) → IsWithin rows w → IsWithin rows (record w { run = false; step = 1 })
+IsWithin-without_run rows w is = search rules
 
 -- at another place, with no run and no pen
-pub IsWithin-fresh : (rows r c : ℕ) (w : Working) → IsWithin rows w → OnScreen r c → r ≤ rows
-    → IsWithin rows (working_without_pen (working_without_run (working_at r c w)))
-IsWithin-fresh rows r c w is on row =
-    IsWithin-working_without_pen rows (working_without_run (working_at r c w))
-    (IsWithin-working_without_run rows (working_at r c w) (IsWithin-working_at rows r c w is on row))
-
--- the row below is a row of the format
-pub row_below-from_top : (s : ControlState) (r : ℕ) → 1 ≤ r → 1 ≤ row_below s r
-row_below-from_top s r top =
-    cond_both (is_last_of (scrolling_area s) r) r (cond (eqb r s.rows) (cond s.wrap 1 r) (r + 1)) (λ n. 1 ≤ n)
-    (λ stays. top)
-    (λ goes. cond_both (eqb r s.rows) (cond s.wrap 1 r) (r + 1) (λ n. 1 ≤ n)
-    (λ e. cond_both s.wrap 1 r (λ n. 1 ≤ n) (λ w. omega arith) (λ w. omega arith))
-    (λ e. omega arith))
-
-pub row_below-within : (s : ControlState) (r : ℕ) → 1 ≤ r → r ≤ s.rows → row_below s r ≤ s.rows
-row_below-within s r top within =
-    cond_both (is_last_of (scrolling_area s) r) r (cond (eqb r s.rows) (cond s.wrap 1 r) (r + 1)) (λ n. n ≤ s.rows)
-    (λ stays. within)
-    (λ goes. cond_both (eqb r s.rows) (cond s.wrap 1 r) (r + 1) (λ n. n ≤ s.rows)
-    (λ e. cond_both s.wrap 1 r (λ n. n ≤ s.rows) (λ w. omega arith) (λ w. omega arith))
-    (λ e. let other = eqb-false r s.rows e in omega arith))
+pub IsWithin-working_afresh : (rows r c : ℕ) (w : Working) → IsWithin rows w → OnScreen r c → r ≤ rows
+    → IsWithin rows (working_afresh r c w)
+IsWithin-working_afresh rows r c w is on row = search rules
 
 pub rows-bounds : (s : ControlState) → IsValidControl s → (20 ≤ s.rows) × (s.rows ≤ 24)
 rows-bounds s is = (omega (arith, is.rows), omega (arith, is.rows))
-
-pub OnScreen-row_below : (s : ControlState) (r c : ℕ) → IsValidControl s → OnScreen r c → r ≤ s.rows
-    → OnScreen (row_below s r) c
-OnScreen-row_below s r c is on row =
-    let low = row_below-from_top s r on.from_top in
-    let high = row_below-within s r on.from_top row in
-    let bounds = rows-bounds s is in
-    record { from_top = low; to_bottom = omega arith; from_left = on.from_left; to_right = on.to_right }
-
-pub IsWithin-working_ahead : (s : ControlState) (n : ℕ) → IsValidControl s
-    → IsWithin s.rows (working_ahead s n s.working)
-IsWithin-working_ahead s n is =
-    let w : Working = s.working in
-    let on : OnScreen w.row w.column = is.working.place in
-    let bounds = rows-bounds s is in
-    cond_both (leb (w.column + n) 40) (working_at w.row (w.column + n) w)
-    (cond s.wrap (working_at (row_below s w.row) 1 w) (working_at w.row 40 w)) (IsWithin s.rows)
-    (λ e. let within = leb-true (w.column + n) 40 e in
-    IsWithin-working_at s.rows w.row (w.column + n) w (IsWithin-control s is)
-    (record { from_top = on.from_top; to_bottom = on.to_bottom; from_left = omega arith; to_right = within })
-    is.within)
-    (λ e. cond_both s.wrap (working_at (row_below s w.row) 1 w) (working_at w.row 40 w) (IsWithin s.rows)
-    (λ wraps. IsWithin-working_at s.rows (row_below s w.row) 1 w (IsWithin-control s is)
-    (OnScreen-row_below s w.row 1 is
-    (record { from_top = on.from_top; to_bottom = on.to_bottom; from_left = omega arith; to_right = omega arith })
-    is.within) (row_below-within s w.row on.from_top is.within))
-    (λ stays. IsWithin-working_at s.rows w.row 40 w (IsWithin-control s is)
-    (record { from_top = on.from_top; to_bottom = on.to_bottom; from_left = omega arith; to_right = omega arith })
-    is.within))
-
--- the row above is a row of the format
-pub row_above-from_top : (s : ControlState) (r : ℕ) → 1 ≤ s.rows → 1 ≤ r → 1 ≤ row_above s r
-row_above-from_top s r rows top =
-    cond_both (is_first_of (scrolling_area s) r) r (cond (eqb r 1) (cond s.wrap s.rows r) (r - 1)) (λ n. 1 ≤ n)
-    (λ stays. top)
-    (λ goes. cond_both (eqb r 1) (cond s.wrap s.rows r) (r - 1) (λ n. 1 ≤ n)
-    (λ e. cond_both s.wrap s.rows r (λ n. 1 ≤ n) (λ w. rows) (λ w. top))
-    (λ e. let other = eqb-false r 1 e in omega arith))
-
-pub row_above-within : (s : ControlState) (r : ℕ) → r ≤ s.rows → row_above s r ≤ s.rows
-row_above-within s r within =
-    cond_both (is_first_of (scrolling_area s) r) r (cond (eqb r 1) (cond s.wrap s.rows r) (r - 1)) (λ n. n ≤ s.rows)
-    (λ stays. within)
-    (λ goes. cond_both (eqb r 1) (cond s.wrap s.rows r) (r - 1) (λ n. n ≤ s.rows)
-    (λ e. cond_both s.wrap s.rows r (λ n. n ≤ s.rows) (λ w. omega arith) (λ w. within))
-    (λ e. omega arith))
 
 -- a row of the format, in a column
 IsWithin-row : (s : ControlState) (r c : ℕ) → IsValidControl s → 1 ≤ r → r ≤ s.rows → 1 ≤ c → c ≤ 40
@@ -155,22 +90,76 @@ IsWithin-row s r c is top within left right =
     IsWithin-working_at s.rows r c s.working (IsWithin-control s is)
     (record { from_top = top; to_bottom = omega arith; from_left = left; to_right = right }) within
 
-pub IsWithin-row_above : (s : ControlState) (c : ℕ) → IsValidControl s → 1 ≤ c → c ≤ 40
-    → IsWithin s.rows (working_at (row_above s s.working.row) c s.working)
-IsWithin-row_above s c is left right =
+-- the row below is a row of the format
+IsWithin-next : (s : ControlState) (c : ℕ) → IsValidControl s → 1 ≤ c → c ≤ 40 → IsWithin s.rows
+    (working_at (cond (eqb s.working.row s.rows) (cond s.wrap 1 s.working.row) (s.working.row + 1)) c s.working)
+IsWithin-next s c is left right =
+    let r : ℕ = s.working.row in
+    let top : 1 ≤ r = is.working.place.from_top in
     let bounds = rows-bounds s is in
-    IsWithin-row s (row_above s s.working.row) c is
-    (row_above-from_top s s.working.row (omega arith) is.working.place.from_top)
-    (row_above-within s s.working.row is.within) left right
+    cond_both (eqb r s.rows) (cond s.wrap 1 r) (r + 1) (λ k. IsWithin s.rows (working_at k c s.working))
+    (λ e. cond_both s.wrap 1 r (λ k. IsWithin s.rows (working_at k c s.working))
+    (λ w. IsWithin-row s 1 c is (omega arith) (omega arith) left right)
+    (λ w. IsWithin-row s r c is top is.within left right))
+    (λ e. let other = eqb-false r s.rows e in let within = is.within in
+    IsWithin-row s (r + 1) c is (omega arith) (omega arith) left right)
 
-pub IsWithin-working_back : (s : ControlState) → IsValidControl s → IsWithin s.rows (working_back s s.working)
+IsWithin-working_below : (s : ControlState) (c : ℕ) → IsValidControl s → 1 ≤ c → c ≤ 40
+    → IsWithin s.rows (working_below s c)
+IsWithin-working_below s c is left right =
+    let r : ℕ = s.working.row in
+    let next : ℕ = cond (eqb r s.rows) (cond s.wrap 1 r) (r + 1) in
+    cond_both (is_last_of (scrolling_area s) r)
+    (working_at r c s.working, strokes_of_scroll s ways.Up (scrolling_area s)) (working_at next c s.working, [])
+    (λ (m : Working × List Stroke). IsWithin s.rows m.0)
+    (λ e. IsWithin-row s r c is is.working.place.from_top is.within left right)
+    (λ e. IsWithin-next s c is left right)
+
+pub IsWithin-working_ahead : (s : ControlState) (n : ℕ) → IsValidControl s → IsWithin s.rows (working_ahead s n)
+IsWithin-working_ahead s n is =
+    let w : Working = s.working in
+    let on : OnScreen w.row w.column = is.working.place in
+    cond_both (leb (w.column + n) 40) (working_at w.row (w.column + n) w, [])
+    (cond s.wrap (below s 1) (working_at w.row 40 w, [])) (λ (m : Working × List Stroke). IsWithin s.rows m.0)
+    (λ e. let within = leb-true (w.column + n) 40 e in
+    IsWithin-row s w.row (w.column + n) is on.from_top is.within (omega arith) within)
+    (λ e. cond_both s.wrap (below s 1) (working_at w.row 40 w, []) (λ (m : Working × List Stroke). IsWithin s.rows m.0)
+    (λ wraps. IsWithin-working_below s 1 is (omega arith) (omega arith))
+    (λ stays. IsWithin-row s w.row 40 is on.from_top is.within (omega arith) (omega arith)))
+
+-- the row above is a row of the format
+IsWithin-before : (s : ControlState) (c : ℕ) → IsValidControl s → 1 ≤ c → c ≤ 40 → IsWithin s.rows
+    (working_at (cond (eqb s.working.row 1) (cond s.wrap s.rows s.working.row) (s.working.row - 1)) c s.working)
+IsWithin-before s c is left right =
+    let r : ℕ = s.working.row in
+    let top : 1 ≤ r = is.working.place.from_top in
+    let bounds = rows-bounds s is in
+    cond_both (eqb r 1) (cond s.wrap s.rows r) (r - 1) (λ k. IsWithin s.rows (working_at k c s.working))
+    (λ e. cond_both s.wrap s.rows r (λ k. IsWithin s.rows (working_at k c s.working))
+    (λ w. IsWithin-row s s.rows c is (omega arith) (omega arith) left right)
+    (λ w. IsWithin-row s r c is top is.within left right))
+    (λ e. let other = eqb-false r 1 e in let within = is.within in
+    IsWithin-row s (r - 1) c is (omega arith) (omega arith) left right)
+
+IsWithin-working_above : (s : ControlState) (c : ℕ) → IsValidControl s → 1 ≤ c → c ≤ 40
+    → IsWithin s.rows (working_above s c)
+IsWithin-working_above s c is left right =
+    let r : ℕ = s.working.row in
+    let before : ℕ = cond (eqb r 1) (cond s.wrap s.rows r) (r - 1) in
+    cond_both (is_first_of (scrolling_area s) r)
+    (working_at r c s.working, strokes_of_scroll s ways.Down (scrolling_area s)) (working_at before c s.working, [])
+    (λ (m : Working × List Stroke). IsWithin s.rows m.0)
+    (λ e. IsWithin-row s r c is is.working.place.from_top is.within left right)
+    (λ e. IsWithin-before s c is left right)
+
+pub IsWithin-working_back : (s : ControlState) → IsValidControl s → IsWithin s.rows (working_back s)
 IsWithin-working_back s is =
     let w : Working = s.working in
     let on : OnScreen w.row w.column = is.working.place in
-    cond_both (eqb w.column 1) (cond s.wrap (working_at (row_above s w.row) 40 w) w)
-    (working_at w.row (w.column - 1) w) (IsWithin s.rows)
-    (λ e. cond_both s.wrap (working_at (row_above s w.row) 40 w) w (IsWithin s.rows)
-    (λ wraps. IsWithin-row_above s 40 is (omega arith) (omega arith)) (λ stays. IsWithin-control s is))
+    cond_both (eqb w.column 1) (cond s.wrap (above s 40) (w, [])) (working_at w.row (w.column - 1) w, [])
+    (λ (m : Working × List Stroke). IsWithin s.rows m.0)
+    (λ e. cond_both s.wrap (above s 40) (w, []) (λ (m : Working × List Stroke). IsWithin s.rows m.0)
+    (λ wraps. IsWithin-working_above s 40 is (omega arith) (omega arith)) (λ stays. IsWithin-control s is))
     (λ e. let other = eqb-false w.column 1 e in IsWithin-row s w.row (w.column - 1) is on.from_top is.within
     (omega arith) (omega arith))
 
@@ -189,9 +178,9 @@ AreValidSets-sets_with s g set is =
     (λ e''. record { left = is.left; right = is.right; single = is.single })
     (λ e''. record { left = is.left; right = is.right; single = is.single })))
 
-pub IsWithin-working_with_sets : (rows : ℕ) (sets : Sets) (w : Working) → IsWithin rows w → AreValidSets sets
-    → IsWithin rows (working_with_sets sets w)
-IsWithin-working_with_sets rows sets w is valid = assumption
+IsWithin-sets : (rows : ℕ) (sets : Sets) (w : Working) → IsWithin rows w → AreValidSets sets
+    → IsWithin rows (record w { sets = sets })
+IsWithin-sets rows sets w is valid = assumption
 
 -- ---- pens
 
@@ -211,16 +200,11 @@ IsValidPen-pen_with (attrs.Boxed b) p valid is = record { fore = is.fore; back =
 IsValidPen-pen_with (attrs.Size s) p valid is = record { fore = is.fore; back = is.back }
 IsValidPen-pen_with (attrs.Invert b) p valid is = record { fore = is.fore; back = is.back }
 
-IsValidPen-pen_with_any : (attribute : Option Attr) (p : Pen) → IfSome attribute IsValidAttr → IsValidPen p
-    → IsValidPen (pen_with_any attribute p)
-IsValidPen-pen_with_any None p valid is = is
-IsValidPen-pen_with_any (Some attribute) p valid is = IsValidPen-pen_with attribute p valid is
-
 pub fast_after-in_range : (mode fast : ℕ) → fast ≤ 3 → fast_after mode fast ≤ 3
 fast_after-in_range mode fast low = grind (arith, nat_tests)
 
 -- the fast flash after a code of flash or another
-fast_after_code-in_range : (n fast : ℕ) → fast ≤ 3 → fast_after_code n fast ≤ 3
+fast_after_code-in_range : (n fast : ℕ) → fast ≤ 3 → cond (eqb n 8 || eqb n 9) 0 fast ≤ 3
 fast_after_code-in_range n fast low = cond_both (eqb n 8 || eqb n 9) 0 fast (λ k. k ≤ 3) (λ e. omega arith) (λ e. low)
 
 -- a sign takes one column or two
@@ -248,18 +232,21 @@ IsWithin-fast rows fast w is valid_fast = IsWithin-pen rows w.pen fast w is is.v
 -- a marker moves the position on
 IsWithin-marker : (s : ControlState) (m : Marker) → IsValidControl s → IsWithin s.rows (working_after_marker s m)
 IsWithin-marker s m is =
-    IsWithin-run s.rows (run_after m s.working.run) (step_after m s.working.step) (working_ahead s 1 s.working)
+    IsWithin-run s.rows (run_after m s.working.run) (step_after m s.working.step) (working_ahead s 1)
     (IsWithin-working_ahead s 1 is) (step_after-in_range m s.working.step is.working.step)
 
-IsWithin-working_after_function : (c1 : C1Set) (attr : Option Attr) (m : Option Marker) (fast : ℕ) (s : ControlState)
-    → IsValidControl s → IfSome attr IsValidAttr → fast ≤ 3 → IsWithin s.rows (working_after_function c1 attr m fast s)
-IsWithin-working_after_function c1sets.Parallel attr m fast s is valid low =
-    IsWithin-pen s.rows (pen_with_any attr s.working.pen) fast s.working (IsWithin-control s is)
-    (IsValidPen-pen_with_any attr s.working.pen valid is.working.pen) low
-IsWithin-working_after_function c1sets.Serial attr None fast s is valid low =
+IsWithin-working_after_function : (c1 : C1Set) (function : Option (Attr × Marker)) (fast : ℕ) (s : ControlState)
+    → IsValidControl s → IfSome function (λ f. IsValidAttr f.0) → fast ≤ 3
+    → IsWithin s.rows (working_after_function c1 function fast s)
+IsWithin-working_after_function c1sets.Parallel None fast s is valid low =
     IsWithin-fast s.rows fast s.working (IsWithin-control s is) low
-IsWithin-working_after_function c1sets.Serial attr (Some m) fast s is valid low =
-    IsWithin-fast s.rows fast (working_after_marker s m) (IsWithin-marker s m is) low
+IsWithin-working_after_function c1sets.Parallel (Some function) fast s is valid low =
+    IsWithin-pen s.rows (pen_with function.0 s.working.pen) fast s.working (IsWithin-control s is)
+    (IsValidPen-pen_with function.0 s.working.pen valid is.working.pen) low
+IsWithin-working_after_function c1sets.Serial None fast s is valid low =
+    IsWithin-fast s.rows fast s.working (IsWithin-control s is) low
+IsWithin-working_after_function c1sets.Serial (Some function) fast s is valid low =
+    IsWithin-fast s.rows fast (working_after_marker s function.1) (IsWithin-marker s function.1 is) low
 
 -- under another C1 set
 IsWithin-c1 : (rows : ℕ) (set : C1Set) (w : Working) → IsWithin rows w → IsWithin rows (record w { c1 = set })
@@ -318,18 +305,13 @@ pub IsValidControl-control_after_shift : (s : ControlState) → IsValidControl s
 IsValidControl-control_after_shift s is =
     let sets : Sets = record s.working.sets { single = None } in
     let valid : AreValidSets sets = assumption in
-    IsValidControl-control_with s (working_with_sets sets s.working) is
-    (IsWithin-working_with_sets s.rows sets s.working (IsWithin-control s is) valid)
+    IsValidControl-control_with s (record s.working { sets = sets }) is
+    (IsWithin-sets s.rows sets s.working (IsWithin-control s is) valid)
 
--- copies leave the format, and keep control valid
-pub rows-control_after_copies : (n : ℕ) (s : ControlState) (g : Glyph) → (control_after_copies n s g).rows ≡ s.rows
-unfolding control_after_copies
-rows-control_after_copies zero s g = refl
-rows-control_after_copies (suc n) s g = rows-control_after_copies n s g
-
+-- copies keep control valid
 pub IsValidControl-control_after_copies : (n : ℕ) (s : ControlState) (g : Glyph) → IsValidControl s → IsValidGlyph g
     → IsValidControl (control_after_copies n s g)
-unfolding control_after_copies
+unfolding effect_of_copies
 IsValidControl-control_after_copies zero s g is valid = is
 IsValidControl-control_after_copies (suc n) s g is valid =
     let earlier = IsValidControl-control_after_copies n s g is valid in
@@ -341,26 +323,17 @@ IsWithin-working_after_repeat : (n : ℕ) (s : ControlState) (last : Option Glyp
     → IsWithin s.rows (working_after_repeat n s last)
 IsWithin-working_after_repeat n s None is valid = IsWithin-control s is
 IsWithin-working_after_repeat n s (Some g) is valid =
-    subst (λ rows. IsWithin rows (control_after_copies n s g).working) (rows-control_after_copies n s g)
-    (IsWithin-control (control_after_copies n s g) (IsValidControl-control_after_copies n s g is valid))
+    IsWithin-control (control_after_copies n s g) (IsValidControl-control_after_copies n s g is valid)
 
 -- ---- commands
 
-IsWithin-down : (s : ControlState) → IsValidControl s
-    → IsWithin s.rows (working_at (row_below s s.working.row) s.working.column s.working)
-IsWithin-down s is =
-    let on : OnScreen s.working.row s.working.column = is.working.place in
-    IsWithin-row s (row_below s s.working.row) s.working.column is (row_below-from_top s s.working.row on.from_top)
-    (row_below-within s s.working.row on.from_top is.within) on.from_left on.to_right
-
 -- at the first place, with no run and no pen
-IsWithin-home : (s : ControlState) → IsValidControl s
-    → IsWithin s.rows (working_without_pen (working_without_run (working_at 1 1 s.working)))
+IsWithin-home : (s : ControlState) → IsValidControl s → IsWithin s.rows (working_afresh 1 1 s.working)
 IsWithin-home s is =
     let bounds = rows-bounds s is in
     let on : OnScreen 1 1 = record
     { from_top = omega arith; to_bottom = omega arith; from_left = omega arith; to_right = omega arith } in
-    IsWithin-fresh s.rows 1 1 s.working (IsWithin-control s is) on (omega arith)
+    IsWithin-working_afresh s.rows 1 1 s.working (IsWithin-control s is) on (omega arith)
 
 -- ---- the whole state
 
@@ -370,18 +343,18 @@ IsValidControl-working : (s : ControlState) {w : Working} → IsValidControl s �
 IsValidControl-working s {w} is within = IsValidControl-control_with s w is within
 
 IsWithin-position : (s : ControlState) (r c : ℕ) → IsValidControl s → OnScreen r c
-    → IsWithin s.rows (working_without_pen (working_without_run (working_at (min r s.rows) c s.working)))
+    → IsWithin s.rows (working_afresh (min r s.rows) c s.working)
 IsWithin-position s r c is valid =
     let bounds = rows-bounds s is in
     let on : OnScreen (min r s.rows) c = search rules in
-    IsWithin-fresh s.rows (min r s.rows) c s.working (IsWithin-control s is) on (omega arith)
+    IsWithin-working_afresh s.rows (min r s.rows) c s.working (IsWithin-control s is) on (omega arith)
 
 -- the state with other sets
 IsValidControl-sets : (s : ControlState) (sets : Sets) → IsValidControl s → AreValidSets sets
-    → IsValidControl (control_with s (working_with_sets sets s.working))
+    → IsValidControl (control_with s (record s.working { sets = sets }))
 IsValidControl-sets s sets is valid =
-    IsValidControl-control_with s (working_with_sets sets s.working) is
-    (IsWithin-working_with_sets s.rows sets s.working (IsWithin-control s is) valid)
+    IsValidControl-control_with s (record s.working { sets = sets }) is
+    (IsWithin-sets s.rows sets s.working (IsWithin-control s is) valid)
 
 -- the state without an accent that waits
 IsValidControl-without_accent : (s : ControlState) → IsValidControl s
@@ -419,22 +392,17 @@ IsValidControl-after_service s (Some w) is was = search rules
 pub IsValidControl-control_effect : (s : ControlState) (command : Command) → IsValidControl s → IsValidCommand command
     → IsValidControl (control_effect s command)
 IsValidControl-control_effect s commands.Back is valid =
-    IsValidControl-working s is (IsWithin-working_without_run s.rows (working_back s s.working)
-    (IsWithin-working_back s is))
+    IsValidControl-working s is (IsWithin-without_run s.rows (working_back s) (IsWithin-working_back s is))
 IsValidControl-control_effect s commands.Forward is valid =
-    IsValidControl-working s is (IsWithin-working_without_run s.rows (working_ahead s 1 s.working)
-    (IsWithin-working_ahead s 1 is))
+    IsValidControl-working s is (IsWithin-without_run s.rows (working_ahead s 1) (IsWithin-working_ahead s 1 is))
 IsValidControl-control_effect s commands.Down is valid =
-    IsValidControl-working s is
-    (IsWithin-working_without_run s.rows
-    (working_at (row_below s s.working.row) s.working.column s.working) (IsWithin-down s is))
+    IsValidControl-working s is (IsWithin-without_run s.rows (working_below s s.working.column)
+    (IsWithin-working_below s s.working.column is is.working.place.from_left is.working.place.to_right))
 IsValidControl-control_effect s commands.Up is valid =
-    IsValidControl-working s is
-    (IsWithin-working_without_run s.rows (working_at (row_above s s.working.row) s.working.column s.working)
-    (IsWithin-row_above s s.working.column is is.working.place.from_left is.working.place.to_right))
+    IsValidControl-working s is (IsWithin-without_run s.rows (working_above s s.working.column)
+    (IsWithin-working_above s s.working.column is is.working.place.from_left is.working.place.to_right))
 IsValidControl-control_effect s commands.Return is valid =
-    IsValidControl-working s is
-    (IsWithin-working_without_run s.rows (working_at s.working.row 1 s.working)
+    IsValidControl-working s is (IsWithin-without_run s.rows (working_at s.working.row 1 s.working)
     (IsWithin-row s s.working.row 1 is is.working.place.from_top is.within (omega arith) (omega arith)))
 IsValidControl-control_effect s commands.Home is valid = IsValidControl-working s is (IsWithin-home s is)
 IsValidControl-control_effect s commands.Clear is valid = IsValidControl-working s is (IsWithin-home s is)
@@ -459,22 +427,20 @@ IsValidControl-control_effect s (commands.Repeat n) is valid =
     IsValidControl-working s is (IsWithin-working_after_repeat n s s.working.last is is.working.last)
 IsValidControl-control_effect s (commands.C1 n) is valid =
     IsValidControl-working s is
-    (IsWithin-working_after_function s.working.c1 (attribute_of s.working.table n) (marker_of s.working.table n)
-    (fast_after_code n s.working.fast) s is (IsValid-attribute_of s.working.table n is.working.table)
+    (IsWithin-working_after_function s.working.c1 (c1_function s.working.table n)
+    (cond (eqb n 8 || eqb n 9) 0 s.working.fast) s is (HasValidAttr-c1_function s.working.table n is.working.table)
     (fast_after_code-in_range n s.working.fast is.working.fast))
 IsValidControl-control_effect s (commands.DesignateC1 set) is valid =
     IsValidControl-working s is
-    (IsWithin-working_without_run s.rows (record s.working { c1 = set })
+    (IsWithin-without_run s.rows (record s.working { c1 = set })
     (IsWithin-c1 s.rows set s.working (IsWithin-control s is)))
 IsValidControl-control_effect s (commands.FlashMode k) is valid =
     IsValidControl-working s is
-    (IsWithin-working_after_function s.working.c1 (Some (attrs.Flash (flash_of k s.working.fast)))
-    (Some (markers.Flash (flash_of k s.working.fast))) (fast_after k s.working.fast) s is tt
+    (IsWithin-working_after_function s.working.c1 (flashing (flash_of k s.working.fast)) (fast_after k s.working.fast) s is tt
     (fast_after-in_range k s.working.fast is.working.fast))
 IsValidControl-control_effect s commands.StopConceal is valid =
     IsValidControl-working s is
-    (IsWithin-working_after_function s.working.c1 (Some (attrs.Conceal false)) (Some (markers.Conceal false))
-    s.working.fast s is tt is.working.fast)
+    (IsWithin-working_after_function s.working.c1 revealing s.working.fast s is tt is.working.fast)
 IsValidControl-control_effect s (commands.Table k) is valid =
     IsValidControl-working s is (IsWithin-with_table s.rows k s.working (IsWithin-control s is) valid)
 IsValidControl-control_effect s (commands.Format rows wrap) is valid = search rules

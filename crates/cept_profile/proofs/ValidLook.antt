@@ -8,6 +8,7 @@ use Rattle.std.proofs.lemmas.List.{length-append, length-replicate}
 use Rattle.std.specs.List.{AllByRecursion}
 use Rattle.std.specs.Prelude.{IfSome, nat_lt}
 use Rattle.std.proofs.lemmas.Bool.{cases_lt, cond_both}
+use Rattle.cept_codes.specs.declared.attribute.Full.{Full}
 use Rattle.cept_codes.specs.declared.attribute.Pen.{Pen}
 use Rattle.cept_codes.specs.declared.attribute.Size.{Size}
 use Rattle.cept_codes.specs.declared.cell.What.{What}
@@ -32,13 +33,13 @@ use Rattle.cept_codes.specs.Place.{OnScreen}
 use Rattle.cept_codes.specs.Stroke.{IsPaintOf}
 use Rattle.cept_codes.proofs.Laws.{entry_past, indexed_more, indexed_none, length-list_by_index, value_at-table, IsTable-table}
 use Rattle.cept_profile.specs.Attributes.{first_value, cascade}
-use Rattle.cept_profile.specs.Colours.{ink, fore_paint, back_paint, paint_over}
-use Rattle.cept_profile.specs.Look.{shape_of, shape_of_sign, attributes_of, look_of, look, looks_of, grid}
-use Rattle.cept_profile.specs.Look.{contents_of_row, look_in_row, look_with_part, own_look, own_size}
+use Rattle.cept_profile.specs.Colours.{ink, paint_over}
+use Rattle.cept_profile.specs.Look.{shape_of_sign, attributes_of, look_of, look, looks_of, grid}
+use Rattle.cept_profile.specs.Look.{contents_of_row, look_in_row, own_look, own_size}
 use Rattle.cept_profile.specs.Look.{part_of, shape_in, shape_in_set}
 use Rattle.cept_profile.specs.Definitions.{Definitions, inks_of, inks_with}
 use Rattle.cept_profile.specs.PageParts.{dclut_in, paint_in, pattern_in, row_pen_in}
-use Rattle.cept_profile.specs.RowsFromAbove.{look_by, look_from, look_seen, looks_in, row_from_above}
+use Rattle.cept_profile.specs.RowsFromAbove.{look_with_part, look_by, look_from, look_seen, looks_in, row_from_above}
 use Rattle.cept_profile.specs.Serial.{held_sign, own_attributes}
 use Rattle.cept_profile.specs.Tiling.{column_entry, covers_below, is_covered_from_left, is_high, is_wide, origin_part}
 use Rattle.cept_profile.proofs.ColumnEntries.{column_entry-default, column_entry-row_of}
@@ -158,33 +159,6 @@ IsValidShape-sign defined are g valid =
     (shape_in_set defined g g.set (pattern_in defined.patterns g.code)) IsValidShape (λ e. tt)
     (λ e. IsValidShape-in_set defined are g valid g.set valid.code)
 
-pub IsValidShape-shape_of : (defined : Definitions) → AreValidDefinitions defined → (what : What) → IsValidWhat what
-    → IsValidShape (shape_of defined what)
-IsValidShape-shape_of defined are whats.Blank valid = tt
-IsValidShape-shape_of defined are (whats.Serial g) valid = IsValidShape-sign defined are g valid
-IsValidShape-shape_of defined are (whats.Parallel g pen) valid = IsValidShape-sign defined are g valid.0
-IsValidShape-shape_of defined are (whats.Marker m) valid = tt
-
--- ---- looks
-
-pub IsValidLook-look_of : (defined : Definitions) (row screen : Pen) (what : What) → AreValidDefinitions defined
-    → IsValidWhat what → IsValidLook (look_of defined row screen what)
-unfolding look_of
-IsValidLook-look_of defined row screen what are valid =
-    let paint_of : ℕ → Paint = paint_in defined.paints in
-    record {
-      shape = IsValidShape-shape_of defined are what valid;
-      part = record {
-        down = omega arith;
-        right = omega arith;
-        wide = (omega arith, omega arith);
-        high = (omega arith, omega arith);
-      };
-      fore = IsValidPaint-paint_over (fore_paint paint_of (attributes_of row screen what))
-          (back_paint paint_of (attributes_of row screen what)) (are.paints _) (are.paints _);
-      back = are.paints _;
-    }
-
 IsValidShape-shape_in : (defined : Definitions) → AreValidDefinitions defined → (w : What) (held : Option Glyph)
     → IsValidWhat w → IfSome held IsValidGlyph → IsValidShape (shape_in defined w held)
 IsValidShape-shape_in defined are (whats.Marker m) (Some g) valid held = IsValidShape-sign defined are g held
@@ -193,6 +167,27 @@ IsValidShape-shape_in defined are (whats.Serial g) held valid is = IsValidShape-
 IsValidShape-shape_in defined are (whats.Parallel g pen) held valid is = IsValidShape-sign defined are g valid.0
 IsValidShape-shape_in defined are (whats.Marker m) None valid is = tt
 
+-- ---- looks
+
+pub IsValidLook-look_of : (defined : Definitions) (row screen : Pen) (what : What) → AreValidDefinitions defined
+    → IsValidWhat what → IsValidLook (look_of defined row screen what)
+unfolding look_of
+IsValidLook-look_of defined row screen what are valid =
+    let paint_of : ℕ → Paint = paint_in defined.paints in
+    let f : Full = attributes_of row screen what in
+    record {
+      shape = IsValidShape-shape_in defined are what None valid tt;
+      part = record {
+        down = omega arith;
+        right = omega arith;
+        wide = (omega arith, omega arith);
+        high = (omega arith, omega arith);
+      };
+      fore = IsValidPaint-paint_over (paint_of (cond f.invert f.back f.fore)) (paint_of (cond f.invert f.fore f.back)) (are.paints _)
+          (are.paints _);
+      back = are.paints _;
+    }
+
 -- the look at a column of a row of valid cells
 pub IsValidLook-look_in_row : (defined : Definitions) (row : ℕ → What) (pen screen : Pen) (c : ℕ) → 1 ≤ c
     → AreValidDefinitions defined → ((d : ℕ) → 1 ≤ d → d ≤ c → IsValidWhat (row d))
@@ -200,6 +195,7 @@ pub IsValidLook-look_in_row : (defined : Definitions) (row : ℕ → What) (pen 
 unfolding look_in_row
 IsValidLook-look_in_row defined row pen screen c low are valid =
     let paint_of : ℕ → Paint = paint_in defined.paints in
+    let f : Full = own_attributes row pen screen c in
     record {
       shape = IsValidShape-shape_in defined are (row c) (held_sign row c) (valid c low (omega arith))
           (held_sign-valid row c low valid);
@@ -209,8 +205,8 @@ IsValidLook-look_in_row defined row pen screen c low are valid =
         wide = (omega arith, omega arith);
         high = (omega arith, omega arith);
       };
-      fore = IsValidPaint-paint_over (fore_paint paint_of (own_attributes row pen screen c))
-          (back_paint paint_of (own_attributes row pen screen c)) (are.paints _) (are.paints _);
+      fore = IsValidPaint-paint_over (paint_of (cond f.invert f.back f.fore)) (paint_of (cond f.invert f.fore f.back)) (are.paints _)
+          (are.paints _);
       back = are.paints _;
     }
 

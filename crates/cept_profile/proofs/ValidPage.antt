@@ -1,16 +1,15 @@
 -- Valid pages: the strokes of a valid command in a valid state keep them valid.
 use Rattle.std.proofs.Common.{option_to_list, map}
 use Rattle.std.proofs.Common.{rules, rules}
-use Rattle.std.proofs.Common.{◌≡◌, ℕ, ◌+◌, ◌-◌, ◌<◌, ◌≤◌, zero, suc, Bool, true, false, not, ◌&&◌, cond, eqb, leb, ltb, Option}
+use Rattle.std.proofs.Common.{◌≡◌, ℕ, ◌+◌, ◌-◌, ◌<◌, ◌≤◌, zero, suc, true, false, not, ◌&&◌, cond, eqb, leb, Option}
 use Rattle.std.proofs.Common.{Some, None, List, [], ◌∷◌, ◌++◌, length, refl, sym, ◌∙◌, subst, arith, ◌⊎◌, inl, inr}
 use Rattle.std.specs.List.{AllByRecursion}
 use Rattle.std.specs.Prelude.{IfSome}
-use Rattle.std.proofs.lemmas.Bool.{cond_both, and_parts, eqb-true, eqb-false, leb-true, ltb-true}
+use Rattle.std.proofs.lemmas.Bool.{cond_both, and_parts, eqb-true, eqb-false, leb-true}
 use Rattle.cept_codes.specs.declared.attribute.Attr.{Attr}
 use Rattle.cept_codes.specs.declared.attribute.Pen.{Pen}
 use Rattle.cept_codes.specs.declared.cell.Cell.{Cell}
 use Rattle.cept_codes.specs.declared.cell.Marker.{Marker}
-use Rattle.cept_codes.specs.declared.cell.Marker.TheVariants as markers
 use Rattle.cept_codes.specs.declared.cell.What.TheVariants as whats
 use Rattle.cept_codes.specs.declared.command.Command.{Command}
 use Rattle.cept_codes.specs.declared.command.Command.TheVariants as commands
@@ -33,25 +32,26 @@ use Rattle.cept_codes.specs.Table.{table, value_at, IsTable}
 use Rattle.cept_codes.proofs.Laws.{value_at-table, IsTable-table}
 use Rattle.cept_profile.specs.Cells.{is_at, cell_after, cells_after, cells_after_all}
 use Rattle.cept_profile.specs.Control.{ControlState, state_for_effect}
-use Rattle.cept_profile.specs.Markers.{marker_of, strokes_of_marker}
-use Rattle.cept_profile.specs.Control.{Working, control_after, control_after_service, control_effect}
-use Rattle.cept_profile.specs.Motions.{area_in_force, area_within, back_strokes, on_strokes, scrolling_area}
+use Rattle.cept_profile.specs.Control.{Working, control_after}
+use Rattle.cept_profile.specs.Motions.{area_in_force, area_within, scrolling_area}
 use Rattle.cept_profile.specs.Motions.{strokes_of_scroll}
-use Rattle.cept_profile.specs.Pens.{attribute_of, flash_of, strokes_of_function}
+use Rattle.cept_profile.specs.Pens.{c1_function, flash_of}
 use Rattle.cept_profile.specs.Sets.{IsValidRead}
-use Rattle.cept_profile.specs.Strokes.{strokes_when, strokes_of}
+use Rattle.cept_profile.specs.Strokes.{strokes_of}
 use Rattle.cept_profile.specs.Valid.{IsValidControl}
-use Rattle.cept_profile.specs.Writing.{columns_of_sign, sign_with_accent, control_after_copies, content}
-use Rattle.cept_profile.specs.Writing.{strokes_of_copies, strokes_of_read, strokes_of_repeat, graphic_read}
-use Rattle.cept_profile.specs.Writing.{strokes_of_sign}
+use Rattle.cept_profile.specs.Writing.{control_after_shift, content, effect_of_copies, sign_with_accent}
+use Rattle.cept_profile.specs.Writing.{graphic_read}
+use Rattle.cept_profile.proofs.Halves.{control_after_service}
+use Rattle.cept_profile.proofs.Halves.{back_strokes, columns_of_sign, control_after_copies, control_effect, on_strokes}
+use Rattle.cept_profile.proofs.Halves.{flashing, revealing, strokes_of_copies, strokes_of_function, strokes_of_marker, strokes_of_read}
+use Rattle.cept_profile.proofs.Halves.{strokes_of_repeat, strokes_of_sign, strokes_when}
 use Rattle.cept_profile.proofs.CopiesOfSigns.{length-strokes_of_copies}
-use Rattle.cept_profile.proofs.MotionStrokes.{by_above, by_back_strokes, by_below, by_on_strokes, length-above_strokes}
+use Rattle.cept_profile.proofs.MotionStrokes.{by_above_strokes, by_back_strokes, by_below_strokes, by_on_strokes, length-above_strokes}
 use Rattle.cept_profile.proofs.MotionStrokes.{length-back_strokes, length-below_strokes, length-on_strokes}
 use Rattle.cept_profile.proofs.MotionStrokes.{length-strokes_of_scroll}
-use Rattle.cept_profile.proofs.ValidAttributes.{IsRowAttr-attribute_of, IsScreenAttr-attribute_of}
-use Rattle.cept_profile.proofs.ValidControl.{IsValidControl-control_after_copies, IsValidControl-state_for_effect}
+use Rattle.cept_profile.proofs.ValidAttributes.{HasRowAttr-c1_function, HasScreenAttr-c1_function, HasValidMarker-c1_function}
+use Rattle.cept_profile.proofs.ValidControl.{IsValidControl-control_after_copies, IsValidControl-control_after_shift, IsValidControl-state_for_effect}
 use Rattle.cept_profile.proofs.ValidControl.{IsValidGlyph-sign_with_accent, IsValidRead-graphic_read}
-use Rattle.cept_profile.proofs.ValidControl.{rows-control_after_copies}
 
 -- ---- cells, place by place
 
@@ -285,14 +285,12 @@ AllByRecursion-append P (x ∷ xs) ys all more = (all.0, AllByRecursion-append P
 
 IsSafe-strokes_of_copies : (n : ℕ) (s : ControlState) (g : Glyph) → IsValidControl s → IsValidGlyph g
     → AllByRecursion (IsSafe s.rows) (strokes_of_copies n s g)
-unfolding strokes_of_copies
+unfolding effect_of_copies
 IsSafe-strokes_of_copies zero s g is valid = tt
 IsSafe-strokes_of_copies (suc n) s g is valid =
     AllByRecursion-append (IsSafe s.rows) (strokes_of_copies n s g) (strokes_of_sign (control_after_copies n s g) g)
     (IsSafe-strokes_of_copies n s g is valid)
-    (subst (λ (rows : ℕ). AllByRecursion (IsSafe rows) (strokes_of_sign (control_after_copies n s g) g))
-    (rows-control_after_copies n s g)
-    (IsSafe-strokes_of_sign (control_after_copies n s g) g (IsValidControl-control_after_copies n s g is valid) valid))
+    (IsSafe-strokes_of_sign (control_after_copies n s g) g (IsValidControl-control_after_copies n s g is valid) valid)
 
 IsSafe-strokes_of_repeat : (n : ℕ) (s : ControlState) (last : Option Glyph) → IsValidControl s
     → IfSome last IsValidGlyph
@@ -309,49 +307,26 @@ IsSafe-marker : (s : ControlState) (m : Marker) → IsValidControl s → IsValid
 IsSafe-marker s m is valid =
     ((is.working.place, is.within, valid, λ blank_is. absurd (marker_is_not_blank m blank_is)), IsSafe-on_strokes s 1 is)
 
-IsSafe-function : (s : ControlState) (c1 : C1Set) (m : Option Marker) → IsValidControl s → IfSome m IsValidMarker
-    → AllByRecursion (IsSafe s.rows) (strokes_of_function c1 m s)
-IsSafe-function s c1sets.Parallel m is valid = tt
-IsSafe-function s c1sets.Serial None is valid = tt
-IsSafe-function s c1sets.Serial (Some m) is valid = IsSafe-marker s m is valid
-
--- a marker, or none, of a choice
-IsValid-choice : (test : Bool) (x y : Option Marker) → (test ≡ true → IfSome x IsValidMarker)
-    → (test ≡ false → IfSome y IsValidMarker) → IfSome (cond test x y) IsValidMarker
-IsValid-choice test x y holds fails = cond_both test x y (λ m. IfSome m IsValidMarker) holds fails
-
-IsValid-marker_of : (table n : ℕ) → table ≤ 3 → IfSome (marker_of table n) IsValidMarker
-IsValid-marker_of table n low =
-    IsValid-choice (ltb n 8) _ _ (λ e. let below = ltb-true n 8 e in omega arith)
-    (λ _. IsValid-choice (eqb n 8) _ _ (λ _. tt)
-    (λ _. IsValid-choice (eqb n 9) _ _ (λ _. tt)
-    (λ _. IsValid-choice (eqb n 10) _ _ (λ _. tt)
-    (λ _. IsValid-choice (eqb n 11) _ _ (λ _. tt)
-    (λ _. IsValid-choice (eqb n 12) _ _ (λ _. tt)
-    (λ _. IsValid-choice (eqb n 13) _ _ (λ _. tt)
-    (λ _. IsValid-choice (eqb n 14) _ _ (λ _. tt)
-    (λ _. IsValid-choice (eqb n 15) _ _ (λ _. tt)
-    (λ _. IsValid-choice (ltb n 24) _ _ (λ e. let below = ltb-true n 24 e in omega arith)
-    (λ _. IsValid-choice (eqb n 24) _ _ (λ _. tt)
-    (λ _. IsValid-choice (eqb n 25) _ _ (λ _. tt)
-    (λ _. IsValid-choice (eqb n 26) _ _ (λ _. tt)
-    (λ _. IsValid-choice (eqb n 28) _ _ (λ _. tt)
-    (λ _. IsValid-choice (eqb n 29) _ _ (λ _. tt)
-    (λ _. IsValid-choice (eqb n 30) _ _ (λ _. tt)
-    (λ _. IsValid-choice (eqb n 31) _ _ (λ _. tt)
-    (λ _. tt)))))))))))))))))
+IsSafe-function : (s : ControlState) (c1 : C1Set) (function : Option (Attr × Marker)) (fast : ℕ)
+    → IsValidControl s → IfSome function (λ f. IsValidMarker f.1)
+    → AllByRecursion (IsSafe s.rows) (strokes_of_function c1 function fast s)
+IsSafe-function s c1sets.Parallel None fast is valid = tt
+IsSafe-function s c1sets.Parallel (Some function) fast is valid = tt
+IsSafe-function s c1sets.Serial None fast is valid = tt
+IsSafe-function s c1sets.Serial (Some function) fast is valid = IsSafe-marker s function.1 is valid
 
 -- an attribute of the active row, and one of the screen
-IsSafe-row_attribute : (s : ControlState) (attr : Option Attr) → IsValidControl s → IfSome attr IsRowAttr
-    → AllByRecursion (IsSafe s.rows) (map (λ attr. strokes.RowAttr s.working.row attr) (option_to_list attr))
+IsSafe-row_attribute : (s : ControlState) (function : Option (Attr × Marker)) → IsValidControl s
+    → IfSome function (λ f. IsRowAttr f.0)
+    → AllByRecursion (IsSafe s.rows) (map (λ f. strokes.RowAttr s.working.row f.0) (option_to_list function))
 IsSafe-row_attribute s None is valid = tt
-IsSafe-row_attribute s (Some attr) is valid =
+IsSafe-row_attribute s (Some function) is valid =
     ((is.within, (is.working.place.from_top, is.working.place.to_bottom), valid), tt)
 
-IsSafe-attribute : (s : ControlState) (attr : Option Attr) → IfSome attr IsScreenAttr
-    → AllByRecursion (IsSafe s.rows) (map (λ attr. strokes.ScreenAttr attr) (option_to_list attr))
+IsSafe-attribute : (s : ControlState) (function : Option (Attr × Marker)) → IfSome function (λ f. IsScreenAttr f.0)
+    → AllByRecursion (IsSafe s.rows) (map (λ f. strokes.ScreenAttr f.0) (option_to_list function))
 IsSafe-attribute s None valid = tt
-IsSafe-attribute s (Some attr) valid = (valid, tt)
+IsSafe-attribute s (Some function) valid = (valid, tt)
 
 rows-control_after_service : (s : ControlState) (kept : Option Working) → (control_after_service s kept).rows ≡ s.rows
 rows-control_after_service s None = refl
@@ -372,36 +347,40 @@ IsSafe-strokes_when : (s : ControlState) (command : Command) → IsValidControl 
     → LeadsTo s.rows (control_effect s command).rows (strokes_when s command)
 IsSafe-strokes_when s commands.Back is valid = inl ((IsSafe-back_strokes s is), refl)
 IsSafe-strokes_when s commands.Forward is valid = inl ((IsSafe-on_strokes s 1 is), refl)
-IsSafe-strokes_when s commands.Down is valid = inl ((by_below (AllByRecursion (IsSafe s.rows)) s s.working.row tt (IsSafe-scroll ways.Up s is)), refl)
-IsSafe-strokes_when s commands.Up is valid = inl ((by_above (AllByRecursion (IsSafe s.rows)) s s.working.row tt (IsSafe-scroll ways.Down s is)), refl)
+IsSafe-strokes_when s commands.Down is valid = inl ((by_below_strokes (AllByRecursion (IsSafe s.rows)) s s.working.column tt (IsSafe-scroll ways.Up s is)), refl)
+IsSafe-strokes_when s commands.Up is valid = inl ((by_above_strokes (AllByRecursion (IsSafe s.rows)) s s.working.column tt (IsSafe-scroll ways.Down s is)), refl)
 IsSafe-strokes_when s commands.ScrollUp is valid = inl ((IsSafe-shift ways.Up s is), refl)
 IsSafe-strokes_when s commands.ScrollDown is valid = inl ((IsSafe-shift ways.Down s is), refl)
 IsSafe-strokes_when s commands.Clear is valid = inl (((tt, tt)), refl)
 IsSafe-strokes_when s (commands.Graphic byte) is valid =
-    inl ((IsSafe-strokes_of_read s (graphic_read s byte) is (IsValidRead-graphic_read s byte valid)), refl)
+    inl (
+      IsSafe-strokes_of_read (control_after_shift s) (graphic_read s byte) (IsValidControl-control_after_shift s is)
+          (IsValidRead-graphic_read s byte valid),
+      refl,
+    )
 IsSafe-strokes_when s (commands.Repeat n) is valid = inl ((IsSafe-strokes_of_repeat n s s.working.last is is.working.last), refl)
 IsSafe-strokes_when s commands.Cancel is valid = inl (((is.working.place, tt)), refl)
 IsSafe-strokes_when s (commands.C1 n) is valid = inl (
-  (IsSafe-function s s.working.c1 (marker_of s.working.table n) is
-      (IsValid-marker_of s.working.table n is.working.table)),
+  (IsSafe-function s s.working.c1 (c1_function s.working.table n) _ is
+      (HasValidMarker-c1_function s.working.table n is.working.table)),
   refl,
 )
 IsSafe-strokes_when s (commands.FlashMode k) is valid = inl (
-  (IsSafe-function s s.working.c1 (Some (markers.Flash (flash_of k s.working.fast))) is tt),
+  (IsSafe-function s s.working.c1 (flashing (flash_of k s.working.fast)) _ is tt),
   refl,
 )
 IsSafe-strokes_when s commands.StopConceal is valid = inl (
-  (IsSafe-function s s.working.c1 (Some (markers.Conceal false)) is tt),
+  (IsSafe-function s s.working.c1 revealing _ is tt),
   refl,
 )
 IsSafe-strokes_when s (commands.FullScreen n) is valid = inl (
-  (IsSafe-attribute s (attribute_of s.working.table n)
-      (IsScreenAttr-attribute_of s.working.table n is.working.table valid)),
+  (IsSafe-attribute s (c1_function s.working.table n)
+      (HasScreenAttr-c1_function s.working.table n is.working.table valid)),
   refl,
 )
 IsSafe-strokes_when s (commands.FullRow n) is valid = inl (
-  (IsSafe-row_attribute s (attribute_of s.working.table n) is
-      (IsRowAttr-attribute_of s.working.table n is.working.table)),
+  (IsSafe-row_attribute s (c1_function s.working.table n) is
+      (HasRowAttr-c1_function s.working.table n is.working.table)),
   refl,
 )
 IsSafe-strokes_when s commands.ColourDefaults is valid = inl (((tt, tt)), refl)
@@ -455,38 +434,41 @@ length-strokes_of_repeat n s (Some g) low = omega (arith, length-strokes_of_copi
 length-marker : (s : ControlState) (m : Marker) → length (strokes_of_marker s m) ≤ 128
 length-marker s m = omega (arith, length-on_strokes s 1)
 
-length-function : (s : ControlState) (c1 : C1Set) (m : Option Marker) → length (strokes_of_function c1 m s) ≤ 128
-length-function s c1sets.Parallel m = omega arith
-length-function s c1sets.Serial None = omega arith
-length-function s c1sets.Serial (Some m) = length-marker s m
+length-function : (s : ControlState) (c1 : C1Set) (function : Option (Attr × Marker)) (fast : ℕ)
+    → length (strokes_of_function c1 function fast s) ≤ 128
+length-function s c1sets.Parallel None fast = omega arith
+length-function s c1sets.Parallel (Some function) fast = omega arith
+length-function s c1sets.Serial None fast = omega arith
+length-function s c1sets.Serial (Some function) fast = length-marker s function.1
 
-length-row_attribute : (r : ℕ) (attr : Option Attr)
-    → length (map (λ attr. strokes.RowAttr r attr) (option_to_list attr)) ≤ 128
+length-row_attribute : (r : ℕ) (function : Option (Attr × Marker))
+    → length (map (λ f. strokes.RowAttr r f.0) (option_to_list function)) ≤ 128
 length-row_attribute r None = omega arith
-length-row_attribute r (Some attr) = omega arith
+length-row_attribute r (Some function) = omega arith
 
-length-attribute : (attr : Option Attr) → length (map (λ attr. strokes.ScreenAttr attr) (option_to_list attr)) ≤ 128
+length-attribute : (function : Option (Attr × Marker))
+    → length (map (λ f. strokes.ScreenAttr f.0) (option_to_list function)) ≤ 128
 length-attribute None = omega arith
-length-attribute (Some attr) = omega arith
+length-attribute (Some function) = omega arith
 
 length-strokes_when : (s : ControlState) (command : Command) → IsValidCommand command
     → length (strokes_when s command) ≤ 128
 length-strokes_when s commands.Back valid = omega (arith, length-back_strokes s)
 length-strokes_when s commands.Forward valid = omega (arith, length-on_strokes s 1)
-length-strokes_when s commands.Down valid = omega (arith, length-below_strokes s s.working.row)
-length-strokes_when s commands.Up valid = omega (arith, length-above_strokes s s.working.row)
+length-strokes_when s commands.Down valid = omega (arith, length-below_strokes s s.working.column)
+length-strokes_when s commands.Up valid = omega (arith, length-above_strokes s s.working.column)
 length-strokes_when s commands.ScrollUp valid = omega (arith, length-strokes_of_scroll s ways.Up (area_in_force s))
 length-strokes_when s commands.ScrollDown valid = omega (arith, length-strokes_of_scroll s ways.Down (area_in_force s))
 length-strokes_when s commands.Clear valid = omega arith
-length-strokes_when s (commands.Graphic byte) valid = length-strokes_of_read s (graphic_read s byte)
+length-strokes_when s (commands.Graphic byte) valid = length-strokes_of_read (control_after_shift s) (graphic_read s byte)
 length-strokes_when s (commands.Repeat n) valid = length-strokes_of_repeat n s s.working.last valid
-length-strokes_when s (commands.C1 n) valid = length-function s s.working.c1 (marker_of s.working.table n)
+length-strokes_when s (commands.C1 n) valid = length-function s s.working.c1 (c1_function s.working.table n) _
 length-strokes_when s (commands.FlashMode k) valid =
-    length-function s s.working.c1 (Some (markers.Flash (flash_of k s.working.fast)))
-length-strokes_when s commands.StopConceal valid = length-function s s.working.c1 (Some (markers.Conceal false))
-length-strokes_when s (commands.FullScreen n) valid = length-attribute (attribute_of s.working.table n)
+    length-function s s.working.c1 (flashing (flash_of k s.working.fast)) _
+length-strokes_when s commands.StopConceal valid = length-function s s.working.c1 revealing _
+length-strokes_when s (commands.FullScreen n) valid = length-attribute (c1_function s.working.table n)
 length-strokes_when s (commands.FullRow n) valid =
-    length-row_attribute s.working.row (attribute_of s.working.table n)
+    length-row_attribute s.working.row (c1_function s.working.table n)
 length-strokes_when s (commands.DrcsHeader true form) valid = omega arith
 length-strokes_when s (commands.DrcsHeader false form) valid = omega arith
 length-strokes_when s _ valid = omega arith

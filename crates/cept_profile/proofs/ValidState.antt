@@ -9,7 +9,7 @@ use Rattle.cept_codes.specs.declared.stroke.Stroke.TheVariants as strokes
 use Rattle.cept_codes.specs.Attribute.{IsScreenPen, unset_pen}
 use Rattle.cept_codes.specs.Cell.{blank_cell}
 use Rattle.cept_codes.specs.Command.{IsValidCommand}
-use Rattle.cept_profile.specs.Cells.{cell_back, cells_after_all}
+use Rattle.cept_profile.specs.Cells.{cells_after_all}
 use Rattle.cept_profile.specs.Control.{control_after}
 use Rattle.cept_profile.specs.Control.{initial_working}
 use Rattle.cept_profile.specs.Colours.{default_paint}
@@ -60,7 +60,6 @@ IsValidPageOf-start = record {
 }
 
 pub IsValidState-start : IsValidState (state [])
-unfolding cell_back
 IsValidState-start = IsValidState-parts (state []) IsValidControl-initial_control IsValidPageOf-start
 
 -- safe strokes keep a page valid

@@ -1,10 +1,8 @@
 -- Accents and single shifts: how long they wait.
-use Rattle.std.proofs.Common.{◌≡◌, ℕ, ◌+◌, ◌-◌, zero, suc, false, cond, eqb, leb, Option, Some, None, unwrap_or, refl, sym, ap}
-use Rattle.std.proofs.lemmas.Bool.{cond_both, false≢true}
+use Rattle.std.proofs.Common.{◌≡◌, ℕ, zero, suc, false, cond, eqb, ◌||◌, Option, Some, None, unwrap_or, refl, sym, ap}
+use Rattle.std.proofs.lemmas.Bool.{false≢true}
 use Rattle.cept_codes.specs.declared.attribute.Attr.{Attr}
-use Rattle.cept_codes.specs.declared.attribute.Attr.TheVariants as attrs
 use Rattle.cept_codes.specs.declared.cell.Marker.{Marker}
-use Rattle.cept_codes.specs.declared.cell.Marker.TheVariants as markers
 use Rattle.cept_codes.specs.declared.command.C1Set.{C1Set}
 use Rattle.cept_codes.specs.declared.command.C1Set.TheVariants as c1sets
 use Rattle.cept_codes.specs.declared.command.Command.{Command}
@@ -12,42 +10,27 @@ use Rattle.cept_codes.specs.declared.command.Command.TheVariants as commands
 use Rattle.cept_codes.specs.declared.glyph.Glyph.{Glyph}
 use Rattle.cept_codes.specs.declared.glyph.Read.{Read}
 use Rattle.cept_codes.specs.declared.glyph.Read.TheVariants as reads
-use Rattle.cept_profile.specs.Control.{Working, ControlState, working_at, leaves_accent}
-use Rattle.cept_profile.specs.Control.{state_for_effect, control_after, control_after_service}
-use Rattle.cept_profile.specs.Markers.{marker_of}
-use Rattle.cept_profile.specs.Motions.{row_below, row_above, working_ahead, working_back}
-use Rattle.cept_profile.specs.Pens.{attribute_of, fast_after, fast_after_code, flash_of, working_after_function}
-use Rattle.cept_profile.specs.Writing.{control_after_copies, working_after_repeat, sign_with_accent, working_after_read}
-use Rattle.cept_profile.specs.Writing.{columns_of_sign, graphic_read, control_after_shift}
+use Rattle.cept_profile.specs.Control.{Working, ControlState, leaves_accent}
+use Rattle.cept_profile.specs.Control.{state_for_effect, control_after}
+use Rattle.cept_profile.specs.Pens.{c1_function, fast_after, flash_of}
+use Rattle.cept_profile.specs.Writing.{effect_of_copies, sign_with_accent}
+use Rattle.cept_profile.specs.Writing.{graphic_read, control_after_shift}
+use Rattle.cept_profile.proofs.Halves.{control_after_service}
+use Rattle.cept_profile.proofs.MotionStrokes.{above-at, ahead-at, back-at, below-at}
+use Rattle.cept_profile.proofs.Halves.{columns_of_sign, control_after_copies, flashing, revealing, working_after_function}
+use Rattle.cept_profile.proofs.Halves.{working_after_read, working_after_repeat, working_ahead}
 
 -- what moves leaves the accent and the sets
-working_ahead-accent : (s : ControlState) (n : ℕ) (w : Working) → (working_ahead s n w).accent ≡ w.accent
-working_ahead-accent s n w =
-    cond_both (leb (w.column + n) 40) (working_at w.row (w.column + n) w)
-    (cond s.wrap (working_at (row_below s w.row) 1 w) (working_at w.row 40 w)) (λ v. v.accent ≡ w.accent)
-    (λ e. refl)
-    (λ e. cond_both s.wrap (working_at (row_below s w.row) 1 w) (working_at w.row 40 w) (λ v. v.accent ≡ w.accent)
-    (λ e1. refl) (λ e1. refl))
+working_ahead-accent : (s : ControlState) (n : ℕ) → (working_ahead s n).accent ≡ s.working.accent
+working_ahead-accent s n = ahead-at (λ w. w.accent ≡ s.working.accent) s n (λ r c. refl)
 
-working_back-accent : (s : ControlState) (w : Working) → (working_back s w).accent ≡ w.accent
-working_back-accent s w =
-    cond_both (eqb w.column 1) (cond s.wrap (working_at (row_above s w.row) 40 w) w) (working_at w.row (w.column - 1) w)
-    (λ v. v.accent ≡ w.accent)
-    (λ e. cond_both s.wrap (working_at (row_above s w.row) 40 w) w (λ v. v.accent ≡ w.accent) (λ e1. refl) (λ e1. refl))
-    (λ e. refl)
-
-working_ahead-sets : (s : ControlState) (n : ℕ) (w : Working) → (working_ahead s n w).sets ≡ w.sets
-working_ahead-sets s n w =
-    cond_both (leb (w.column + n) 40) (working_at w.row (w.column + n) w)
-    (cond s.wrap (working_at (row_below s w.row) 1 w) (working_at w.row 40 w)) (λ v. v.sets ≡ w.sets)
-    (λ e. refl)
-    (λ e. cond_both s.wrap (working_at (row_below s w.row) 1 w) (working_at w.row 40 w)
-    (λ v. v.sets ≡ w.sets) (λ e1. refl) (λ e1. refl))
+working_ahead-sets : (s : ControlState) (n : ℕ) → (working_ahead s n).sets ≡ s.working.sets
+working_ahead-sets s n = ahead-at (λ w. w.sets ≡ s.working.sets) s n (λ r c. refl)
 
 -- after copies no accent waits
 control_after_copies-accent : (n : ℕ) (s : ControlState) (g : Glyph) → s.working.accent ≡ None
     → (control_after_copies n s g).working.accent ≡ None
-unfolding control_after_copies
+unfolding effect_of_copies
 control_after_copies-accent zero s g none = none
 control_after_copies-accent (suc n) s g none = refl
 
@@ -57,11 +40,12 @@ working_after_repeat-accent n s None none = none
 working_after_repeat-accent n s (Some g) none = control_after_copies-accent n s g none
 
 -- and so do pens and markers
-working_after_function-accent : (set : C1Set) (attr : Option Attr) (m : Option Marker) (fast : ℕ) (s : ControlState)
-    → (working_after_function set attr m fast s).accent ≡ s.working.accent
-working_after_function-accent c1sets.Parallel attr m fast s = refl
-working_after_function-accent c1sets.Serial attr None fast s = refl
-working_after_function-accent c1sets.Serial attr (Some m) fast s = working_ahead-accent s 1 s.working
+working_after_function-accent : (set : C1Set) (function : Option (Attr × Marker)) (fast : ℕ) (s : ControlState)
+    → (working_after_function set function fast s).accent ≡ s.working.accent
+working_after_function-accent c1sets.Parallel None fast s = refl
+working_after_function-accent c1sets.Parallel (Some function) fast s = refl
+working_after_function-accent c1sets.Serial None fast s = refl
+working_after_function-accent c1sets.Serial (Some function) fast s = working_ahead-accent s 1
 
 -- every other command drops it
 pub accent-dropped : (s : ControlState) (command : Command) → leaves_accent command ≡ false
@@ -70,21 +54,23 @@ accent-dropped s commands.Nul drops ended = absurd (false≢true (sym drops))
 accent-dropped s commands.Skipped drops ended = absurd (false≢true (sym drops))
 accent-dropped s (commands.Graphic byte) drops ended = absurd (false≢true (sym drops))
 accent-dropped s commands.Back drops ended =
-    working_back-accent (state_for_effect s commands.Back) (record s.working { accent = None })
+    back-at (λ w. w.accent ≡ None) (state_for_effect s commands.Back) (λ r c. refl)
 accent-dropped s commands.Forward drops ended =
-    working_ahead-accent (state_for_effect s commands.Forward) 1 (record s.working { accent = None })
+    working_ahead-accent (state_for_effect s commands.Forward) 1
+accent-dropped s commands.Down drops ended =
+    below-at (λ w. w.accent ≡ None) (state_for_effect s commands.Down) s.working.column (λ r. refl)
+accent-dropped s commands.Up drops ended =
+    above-at (λ w. w.accent ≡ None) (state_for_effect s commands.Up) s.working.column (λ r. refl)
 accent-dropped s (commands.Repeat n) drops ended =
     working_after_repeat-accent n (state_for_effect s (commands.Repeat n)) s.working.last refl
 accent-dropped s (commands.C1 n) drops ended =
-    working_after_function-accent s.working.c1 (attribute_of s.working.table n) (marker_of s.working.table n)
-    (fast_after_code n s.working.fast) (state_for_effect s (commands.C1 n))
+    working_after_function-accent s.working.c1 (c1_function s.working.table n) (cond (eqb n 8 || eqb n 9) 0 s.working.fast)
+    (state_for_effect s (commands.C1 n))
 accent-dropped s (commands.FlashMode k) drops ended =
-    working_after_function-accent s.working.c1 (Some (attrs.Flash (flash_of k s.working.fast)))
-    (Some (markers.Flash (flash_of k s.working.fast))) (fast_after k s.working.fast)
+    working_after_function-accent s.working.c1 (flashing (flash_of k s.working.fast)) (fast_after k s.working.fast)
     (state_for_effect s (commands.FlashMode k))
 accent-dropped s commands.StopConceal drops ended =
-    working_after_function-accent s.working.c1 (Some (attrs.Conceal false)) (Some (markers.Conceal false))
-    s.working.fast (state_for_effect s commands.StopConceal)
+    working_after_function-accent s.working.c1 revealing s.working.fast (state_for_effect s commands.StopConceal)
 accent-dropped s commands.ServiceEnd drops ended =
     ap (λ (kept : Option Working). (control_after_service (state_for_effect s commands.ServiceEnd) kept).working.accent)
     (ended refl)
@@ -126,7 +112,7 @@ skipped_leaves s = refl
 -- a single shift waits until the next graphic byte
 working_after_read-sets : (s : ControlState) (read : Read) → (working_after_read s read).sets ≡ s.working.sets
 working_after_read-sets s (reads.Accent code) = refl
-working_after_read-sets s (reads.Glyph g) = working_ahead-sets s (columns_of_sign s) s.working
+working_after_read-sets s (reads.Glyph g) = working_ahead-sets s (columns_of_sign s)
 
 pub shift-spent : (s : ControlState) (byte : ℕ)
     → (control_after s (commands.Graphic byte)).working.sets ≡ record s.working.sets { single = None }

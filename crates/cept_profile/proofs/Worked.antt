@@ -19,7 +19,7 @@ use Rattle.cept_codes.specs.Look.{blank_look}
 use Rattle.cept_codes.specs.Table.{value_at}
 use Rattle.cept_profile.specs.Changes.{changes}
 use Rattle.cept_profile.specs.Control.{ControlState, initial_control, initial_working, working_at, control}
-use Rattle.cept_profile.specs.State.{page}
+use Rattle.cept_profile.specs.State.{state}
 use Rattle.cept_profile.specs.Strokes.{strokes_in, strokes_of}
 use Rattle.cept_profile.proofs.PlainPages.{changes-plain}
 
@@ -37,11 +37,11 @@ abbrev pub at_place : ℕ → ℕ → ControlState
 at_place r c = record initial_control { working = working_at r c initial_working }
 
 -- a sign stands at the first place
-pub sign_at_first_place : value_at blank_cell (page (Graphic 0x41 ∷ [])).cells 1 1 ≡ cell_with 0x41
+pub sign_at_first_place : value_at blank_cell (state (Graphic 0x41 ∷ [])).page.cells 1 1 ≡ cell_with 0x41
 unfolding computing
 sign_at_first_place = refl
 
-pub nothing_beside_it : value_at blank_cell (page (Graphic 0x41 ∷ [])).cells 1 2 ≡ blank_cell
+pub nothing_beside_it : value_at blank_cell (state (Graphic 0x41 ∷ [])).page.cells 1 2 ≡ blank_cell
 unfolding computing
 nothing_beside_it = refl
 
@@ -55,18 +55,18 @@ pub space_changes_nothing : changes [] (Graphic 0x20) ≡ []
 unfolding computing
 space_changes_nothing = changes-plain [] (Graphic 0x20) refl refl
 
-pub space_stands : value_at blank_cell (page (Graphic 0x20 ∷ [])).cells 1 1 ≡ cell_with 0x20
+pub space_stands : value_at blank_cell (state (Graphic 0x20 ∷ [])).page.cells 1 1 ≡ cell_with 0x20
 unfolding computing
 space_stands = refl
 
 -- after the last place comes the first
-pub last_place : value_at blank_cell (page (Position 24 40 ∷ Graphic 0x41 ∷ Graphic 0x42 ∷ [])).cells 24 40
+pub last_place : value_at blank_cell (state (Position 24 40 ∷ Graphic 0x41 ∷ Graphic 0x42 ∷ [])).page.cells 24 40
     ≡ cell_with 0x41
 unfolding computing
 last_place = refl
 
 pub after_the_last_place : value_at blank_cell
-    (page (Position 24 40 ∷ Graphic 0x41 ∷ Graphic 0x42 ∷ [])).cells 1 1 ≡ cell_with 0x42
+    (state (Position 24 40 ∷ Graphic 0x41 ∷ Graphic 0x42 ∷ [])).page.cells 1 1 ≡ cell_with 0x42
 unfolding computing
 after_the_last_place = refl
 

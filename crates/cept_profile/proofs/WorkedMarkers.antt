@@ -1,6 +1,6 @@
 -- Worked tables: what each C1 code, flash mode and StopConceal leaves under the serial set, and what it makes of
 -- control, by computing.
-use Rattle.std.proofs.Common.{◌≡◌, List, [], ◌∷◌, map, Some, None, true, false, refl}
+use Rattle.std.proofs.Common.{◌≡◌, List, [], ◌∷◌, map, option_map, Some, None, true, false, refl}
 use Rattle.std.specs.List.{range_with_len}
 use Rattle.cept_codes.specs.declared.attribute.Flash.TheVariants as flashes
 use Rattle.cept_codes.specs.declared.attribute.Size.TheVariants.{Normal, High, Wide, Both}
@@ -15,13 +15,13 @@ use Rattle.cept_codes.specs.declared.stroke.Stroke.{Stroke}
 use Rattle.cept_codes.specs.declared.stroke.Stroke.TheVariants.{Put}
 use Rattle.cept_profile.specs.Control.{Working, ControlState, control_after, initial_control, initial_working}
 use Rattle.cept_profile.specs.Control.{control_with}
-use Rattle.cept_profile.specs.Markers.{marker_of}
+use Rattle.cept_profile.specs.Pens.{c1_function}
 use Rattle.cept_profile.specs.Strokes.{strokes_of}
 
 -- ---- the markers of the codes
 
 -- every C1 code from 8/0 to 9/15 with the colour table 1: only 9/11 leaves none
-pub markers_of_codes : map (marker_of 1) (range_with_len 0 32)
+pub markers_of_codes : map (λ n. option_map (λ f. f.1) (c1_function 1 n)) (range_with_len 0 32)
     ≡ Some (Alpha 8) ∷ Some (Alpha 9) ∷ Some (Alpha 10) ∷ Some (Alpha 11) ∷ Some (Alpha 12) ∷ Some (Alpha 13)
     ∷ Some (Alpha 14)
     ∷ Some (Alpha 15) ∷ Some (Flash flashes.Plain) ∷ Some (Flash flashes.Steady) ∷ Some (Boxed false)

@@ -7,9 +7,10 @@ use Rattle.cept_codes.specs.declared.stroke.Stroke.TheVariants as strokes
 use Rattle.cept_codes.specs.declared.attribute.Attr.TheVariants.{Back}
 use Rattle.cept_codes.specs.declared.attribute.Pen.{Pen}
 use Rattle.cept_codes.specs.Attribute.{unset_pen}
-use Rattle.cept_profile.specs.Edges.{edges_under, is_last}
+use Rattle.cept_profile.specs.Edges.{Edges, edges_of, is_last}
 use Rattle.cept_profile.specs.MovedRows.{row_before}
-use Rattle.cept_profile.specs.PageParts.{row_pen_back}
+use Rattle.cept_profile.specs.Working.{initial_control}
+use Rattle.cept_profile.proofs.PartsByStrokes.{row_pen_back}
 
 -- of which rows the rows 1 to 6 came
 abbrev pub rows_before : List Stroke → List (Option ℕ)
@@ -94,6 +95,11 @@ pub carried_beside : pens_of (strokes.Carry 2 5 Up ∷ strokes.RowAttr 6 (Back 1
 carried_beside = refl
 
 -- ---- which rows are last
+
+-- the edges of so many rows with this area under this revision
+abbrev edges_under : ℕ → Option (ℕ × ℕ) → ℕ → Edges
+edges_under rows area revision =
+    edges_of (record initial_control { rows = rows; area = area; revision = revision })
 
 -- of 20 rows the last is the twentieth, and with it all after it; the first revision asks no area
 pub last_of_20 : map (is_last (edges_under 20 (Some (3, 9)) 1)) (2 ∷ 9 ∷ 19 ∷ 20 ∷ 21 ∷ 24 ∷ [])

@@ -21,18 +21,18 @@ use Rattle.cept_codes.specs.Cell.{blank_cell}
 use Rattle.cept_codes.specs.Table.{value_at}
 use Rattle.cept_profile.specs.Control.{control}
 use Rattle.cept_profile.specs.PageParts.{paint_in, row_pen_in}
-use Rattle.cept_profile.specs.State.{page}
+use Rattle.cept_profile.specs.State.{state}
 
 -- the attributes of a row, and those of the screen, after these commands
 abbrev pub row_pen : List Command → ℕ → Pen
-row_pen history r = row_pen_in (page history).row_pens r
+row_pen history r = row_pen_in (state history).page.row_pens r
 
 abbrev pub screen_pen : List Command → Pen
-screen_pen history = (page history).screen_pen
+screen_pen history = (state history).page.screen_pen
 
 -- what stands in a cell of the first row
 abbrev pub cell_in : List Command → ℕ → What
-cell_in history c = (value_at blank_cell (page history).cells 1 c).what
+cell_in history c = (value_at blank_cell (state history).page.cells 1 c).what
 
 -- the pen of the next sign
 abbrev pub pen : List Command → Pen
@@ -40,7 +40,7 @@ pen history = (control history).working.pen
 
 -- the paint of an entry
 abbrev pub paint : List Command → ℕ → Paint
-paint history i = paint_in (page history).paints i
+paint history i = paint_in (state history).page.paints i
 
 abbrev pub sign_a : Glyph
 sign_a = record { set = P; code = 0x41; accent = 0 }
@@ -171,7 +171,7 @@ sixteen =
     ∷ Video ∷ Ink (rgb 0x7 0x0 0x0) ∷ Ink (rgb 0x0 0x7 0x0) ∷ Ink (rgb 0x7 0x7 0x0)
     ∷ Ink (rgb 0x0 0x0 0x7) ∷ Ink (rgb 0x7 0x0 0x7) ∷ Ink (rgb 0x0 0x7 0x7) ∷ Ink (rgb 0x7 0x7 0x7) ∷ []
 
-pub paints_at_the_start : (page []).paints ≡ sixteen ++ sixteen
+pub paints_at_the_start : (state []).page.paints ≡ sixteen ++ sixteen
 unfolding computing
 paints_at_the_start = refl
 
@@ -194,7 +194,7 @@ pub paints_stay_when_cleared : paint (three_set ++ Clear ∷ []) 8 ∷ paint (th
 unfolding computing
 paints_stay_when_cleared = refl
 
-pub all_paints_come_back : (page (three_set ++ ColourDefaults ∷ [])).paints ≡ sixteen ++ sixteen
+pub all_paints_come_back : (state (three_set ++ ColourDefaults ∷ [])).page.paints ≡ sixteen ++ sixteen
 unfolding computing
 all_paints_come_back = refl
 
@@ -205,30 +205,30 @@ set_after_the_defaults = refl
 
 -- ---- the DCLUT
 
-pub dclut_at_the_start : (page []).dclut ≡ 0 ∷ 1 ∷ 2 ∷ 3 ∷ []
+pub dclut_at_the_start : (state []).page.dclut ≡ 0 ∷ 1 ∷ 2 ∷ 3 ∷ []
 unfolding computing
 dclut_at_the_start = refl
 
 abbrev pub dclut_set : List Command
 dclut_set = Dclut 0 4 ∷ Dclut 3 31 ∷ Dclut 0 5 ∷ []
 
-pub dclut_is_set : (page dclut_set).dclut ≡ 5 ∷ 1 ∷ 2 ∷ 31 ∷ []
+pub dclut_is_set : (state dclut_set).page.dclut ≡ 5 ∷ 1 ∷ 2 ∷ 31 ∷ []
 unfolding computing
 dclut_is_set = refl
 
-pub dclut_stays_when_cleared : (page (dclut_set ++ Clear ∷ [])).dclut ≡ 5 ∷ 1 ∷ 2 ∷ 31 ∷ []
+pub dclut_stays_when_cleared : (state (dclut_set ++ Clear ∷ [])).page.dclut ≡ 5 ∷ 1 ∷ 2 ∷ 31 ∷ []
 unfolding computing
 dclut_stays_when_cleared = refl
 
-pub dclut_comes_back : (page (dclut_set ++ ColourDefaults ∷ [])).dclut ≡ 0 ∷ 1 ∷ 2 ∷ 3 ∷ []
+pub dclut_comes_back : (state (dclut_set ++ ColourDefaults ∷ [])).page.dclut ≡ 0 ∷ 1 ∷ 2 ∷ 3 ∷ []
 unfolding computing
 dclut_comes_back = refl
 
 -- setting paints leaves it, and setting it leaves them
-pub paints_leave_the_dclut : (page (dclut_set ++ three_set)).dclut ≡ 5 ∷ 1 ∷ 2 ∷ 31 ∷ []
+pub paints_leave_the_dclut : (state (dclut_set ++ three_set)).page.dclut ≡ 5 ∷ 1 ∷ 2 ∷ 31 ∷ []
 unfolding computing
 paints_leave_the_dclut = refl
 
-pub dclut_leaves_the_paints : (page dclut_set).paints ≡ sixteen ++ sixteen
+pub dclut_leaves_the_paints : (state dclut_set).page.paints ≡ sixteen ++ sixteen
 unfolding computing
 dclut_leaves_the_paints = refl

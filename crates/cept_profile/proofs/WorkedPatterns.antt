@@ -15,8 +15,9 @@ use Rattle.cept_codes.specs.declared.stroke.Stroke.TheVariants as strokes
 use Rattle.cept_codes.specs.Attribute.{unset_pen}
 use Rattle.cept_profile.specs.Colours.{default_paint, default_paints, ink}
 use Rattle.cept_profile.specs.Definitions.{Definitions, inks_with}
-use Rattle.cept_profile.specs.Look.{look_of, shape_of}
-use Rattle.cept_profile.specs.PageParts.{list_of_codes, list_of_colours, pattern_back, pattern_in}
+use Rattle.cept_profile.specs.Look.{look_of, shape_in}
+use Rattle.cept_profile.specs.PageParts.{list_of_codes, list_of_colours, pattern_in}
+use Rattle.cept_profile.proofs.PartsByStrokes.{pattern_back}
 
 -- 6 by 6 pixels, all set in the first plane
 abbrev pub pattern_of : ℕ → Pattern
@@ -55,22 +56,22 @@ abbrev pub drawn : ℕ → What
 drawn code = whats.Serial (record { set = D; code = code; accent = 0 })
 
 -- one plane has no inks, two have those of the entries that the DCLUT names, the picture behind among them
-pub one_plane : shape_of defined (drawn 0x21) ≡ Drcs (pattern_of 1) (inks_with [])
+pub one_plane : shape_in defined (drawn 0x21) None ≡ Drcs (pattern_of 1) (inks_with [])
 unfolding computing
 one_plane = refl
 
-pub two_planes : shape_of defined (drawn 0x22)
+pub two_planes : shape_in defined (drawn 0x22) None
     ≡ Drcs (pattern_of 2) (inks_with (ink 0 0 15 ∷ ink 15 0 0 ∷ ink 7 7 7 ∷ Video ∷ []))
 unfolding computing
 two_planes = refl
 
 -- four have those of entries 16 to 31, of which 24 shows the picture behind
-pub four_planes : shape_of defined (drawn 0x23) ≡ Drcs (pattern_of 4) (inks_with default_paints)
+pub four_planes : shape_in defined (drawn 0x23) None ≡ Drcs (pattern_of 4) (inks_with default_paints)
 unfolding computing
 four_planes = refl
 
 -- a code without a pattern is drawn as itself, and so is the code of another set
-pub no_pattern : map (shape_of defined)
+pub no_pattern : map (λ w. shape_in defined w None)
     (drawn 0x24 ∷ drawn 0x7F ∷ whats.Serial (record { set = M; code = 0x21; accent = 0 }) ∷ []) ≡
     Char (record { set = D; code = 0x24; accent = 0 }) ∷ Char (record { set = D; code = 0x7F; accent = 0 })
     ∷ Char (record { set = M; code = 0x21; accent = 0 }) ∷ []
@@ -86,7 +87,7 @@ seen l = (l.shape, l.fore, l.back)
 pub inverted : map (λ (pen : Pen). seen (in_pen pen))
     (record unset_pen { fore = Some 2; back = Some 1 }
     ∷ record unset_pen { fore = Some 2; back = Some 1; invert = Some true } ∷ []) ≡
-    (shape_of defined (drawn 0x22), ink 0 15 0, ink 15 0 0) ∷ (shape_of defined (drawn 0x22), ink 15 0 0, ink 0 15 0)
+    (shape_in defined (drawn 0x22) None, ink 0 15 0, ink 15 0 0) ∷ (shape_in defined (drawn 0x22) None, ink 15 0 0, ink 0 15 0)
     ∷ []
 unfolding computing
 inverted = refl

@@ -1,5 +1,5 @@
 -- Worked tables: what each C1 code and each flash mode makes of the pen under the parallel set, by computing.
-use Rattle.std.proofs.Common.{◌≡◌, ℕ, ◌+◌, zero, suc, List, [], ◌∷◌, ◌++◌, map, Option, Some, None, true, false, refl}
+use Rattle.std.proofs.Common.{◌≡◌, ℕ, ◌+◌, zero, suc, List, [], ◌∷◌, ◌++◌, map, option_map, Option, Some, None, true, false, refl}
 use Rattle.std.specs.List.{range_with_len}
 use Rattle.cept_codes.specs.declared.attribute.Attr.{Attr}
 use Rattle.cept_codes.specs.declared.attribute.Attr.TheVariants as attrs
@@ -10,8 +10,9 @@ use Rattle.cept_codes.specs.declared.attribute.Size.TheVariants.{Normal, High, W
 use Rattle.cept_codes.specs.declared.command.Command.{Command}
 use Rattle.cept_codes.specs.declared.command.Command.TheVariants.{C1, FlashMode, StopConceal}
 use Rattle.cept_codes.specs.Attribute.{unset_pen}
-use Rattle.cept_profile.specs.Control.{ControlState, initial_control, initial_working, control, control_effect}
-use Rattle.cept_profile.specs.Pens.{attribute_of, pen_with}
+use Rattle.cept_profile.specs.Control.{ControlState, initial_control, initial_working, control}
+use Rattle.cept_profile.specs.Pens.{c1_function, pen_with}
+use Rattle.cept_profile.proofs.Halves.{control_effect}
 
 -- ---- C1 codes 8/0 to 9/15
 
@@ -50,8 +51,8 @@ pub other_attributes : map pen_of_code (range_with_len 24 8) ≡
 other_attributes = refl
 
 -- red and blue, in front and after, by each colour table
-pub colours_of_tables : map (λ table. attribute_of table 1 ∷ attribute_of table 4 ∷ attribute_of table 17
-    ∷ attribute_of table 20 ∷ []) (0 ∷ 1 ∷ 2 ∷ 3 ∷ []) ≡
+pub colours_of_tables : map (λ table. map (λ n. option_map (λ f. f.0) (c1_function table n)) (1 ∷ 4 ∷ 17 ∷ 20 ∷ []))
+    (0 ∷ 1 ∷ 2 ∷ 3 ∷ []) ≡
     (Some (attrs.Fore 1) ∷ Some (attrs.Fore 4) ∷ Some (attrs.Back 1) ∷ Some (attrs.Back 4) ∷ [])
     ∷ (Some (attrs.Fore 9) ∷ Some (attrs.Fore 12) ∷ Some (attrs.Back 9) ∷ Some (attrs.Back 12) ∷ [])
     ∷ (Some (attrs.Fore 17) ∷ Some (attrs.Fore 20) ∷ Some (attrs.Back 17) ∷ Some (attrs.Back 20) ∷ [])

@@ -14,10 +14,10 @@ use Rattle.cept_codes.specs.declared.stroke.Stroke.{Stroke}
 use Rattle.cept_codes.specs.declared.stroke.Stroke.TheVariants.{Put, Shift}
 use Rattle.cept_codes.specs.Attribute.{unset_pen}
 use Rattle.cept_codes.specs.Cell.{blank_cell}
-use Rattle.cept_profile.specs.Cells.{cell_back}
 use Rattle.cept_profile.specs.Control.{ControlState, initial_control}
 use Rattle.cept_profile.specs.Motions.{area_in_force}
 use Rattle.cept_profile.specs.Strokes.{strokes_back, strokes_in, strokes_of}
+use Rattle.cept_profile.proofs.CellsByStrokes.{cell_back}
 
 -- a sign, protected or not
 abbrev pub cell : ℕ → Bool → Cell

@@ -1,6 +1,6 @@
 -- Worked cases: rows of markers and signs, by computing.
 use Rattle.cept_profile.proofs.WhatComputes.{computing}
-use Rattle.std.proofs.Common.{◌≡◌, ℕ, ◌-◌, Bool, true, false, Option, Some, None, List, [], ◌∷◌, filter, map, refl}
+use Rattle.std.proofs.Common.{◌≡◌, ℕ, ◌-◌, Bool, true, false, Option, Some, None, is_some, List, [], ◌∷◌, filter, map, refl}
 use Rattle.std.proofs.Common.{slice_index_or}
 use Rattle.std.specs.List.{enumerate_from, range_with_len}
 use Rattle.cept_codes.specs.declared.attribute.Flash.{Flash}
@@ -15,9 +15,7 @@ use Rattle.cept_codes.specs.declared.glyph.Glyph.{Glyph}
 use Rattle.cept_codes.specs.declared.glyph.SetId.{SetId}
 use Rattle.cept_codes.specs.declared.glyph.SetId.TheVariants as sets
 use Rattle.cept_codes.specs.Attribute.{unset_pen}
-use Rattle.cept_profile.specs.Serial.{said, fore_said, back_said, hold_said, flash_said, conceal_said, lined_said, boxed_said}
-use Rattle.cept_profile.specs.Serial.{size_said, acts_at_once, serial_attributes, own_attributes}
-use Rattle.cept_profile.specs.Serial.{held_sign}
+use Rattle.cept_profile.specs.Serial.{acts_there, held_sign, hold_said, marker_pen, own_attributes, serial_attributes}
 
 -- a row that begins with these, and is blank after them
 abbrev pub beginning : List What → ℕ → What
@@ -73,10 +71,12 @@ kinds = markers.Alpha 1 ∷ markers.Mosaic 1 ∷ markers.BlackBack ∷ markers.N
     ∷ markers.Lined true ∷ markers.Boxed false ∷ markers.Boxed true ∷ markers.Size sizes.Normal
     ∷ markers.Size sizes.High ∷ markers.Size sizes.Wide ∷ markers.Size sizes.Both ∷ []
 
--- foreground, background, hold, flash, concealing, lining, box and size
+-- foreground, background, hold, flash, concealing, lining, box, size and polarity
 abbrev pub each_class : List (What → Bool)
-each_class = said fore_said ∷ said (back_said 0) ∷ said hold_said ∷ said flash_said ∷ said conceal_said ∷ said lined_said
-    ∷ said boxed_said ∷ said size_said ∷ []
+each_class = (λ w. is_some (marker_pen 0 w).fore) ∷ (λ w. is_some (marker_pen 0 w).back) ∷ (λ w. is_some (hold_said w))
+    ∷ (λ w. is_some (marker_pen 0 w).flash) ∷ (λ w. is_some (marker_pen 0 w).conceal)
+    ∷ (λ w. is_some (marker_pen 0 w).lined) ∷ (λ w. is_some (marker_pen 0 w).boxed)
+    ∷ (λ w. is_some (marker_pen 0 w).size) ∷ (λ w. is_some (marker_pen 0 w).invert) ∷ []
 
 -- the classes of a marker, by their place in that list
 abbrev pub classes_of : Marker → List ℕ
@@ -88,7 +88,7 @@ pub classes : map classes_of kinds
     ∷ (7 ∷ []) ∷ (7 ∷ []) ∷ (7 ∷ []) ∷ []
 classes = refl
 
-pub at_once : map acts_at_once kinds
+pub at_once : map (λ m. acts_there (mark m)) kinds
     ≡ false ∷ false ∷ true ∷ true ∷ true ∷ false ∷ true ∷ false ∷ false ∷ false ∷ false ∷ false ∷ false ∷ false ∷ true
     ∷ false ∷ false ∷ false ∷ false ∷ true ∷ false ∷ false ∷ false ∷ []
 at_once = refl

@@ -24,7 +24,7 @@ use Rattle.cept_profile.specs.Control.{
   control_after,
   working_at,
 }
-use Rattle.cept_profile.specs.State.{page}
+use Rattle.cept_profile.specs.State.{state}
 use Rattle.cept_profile.specs.Strokes.{strokes_in}
 
 -- where a stroke puts something
@@ -174,7 +174,7 @@ pub return_makes_the_step_one : placed returned ≡ (1, 1) ∷ (1, 2) ∷ (1, 2)
 unfolding computing
 return_makes_the_step_one = refl
 
-pub return_leaves_the_marker : value_at blank_cell (page returned).cells 1 1
+pub return_leaves_the_marker : value_at blank_cell (state returned).page.cells 1 1
     ≡ record { what = whats.Marker (markers.Size Wide); protected = false }
 unfolding computing
 return_leaves_the_marker = refl

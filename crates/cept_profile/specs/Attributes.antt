@@ -1,5 +1,5 @@
 -- Attributes by pen, row and screen. The order pen, row, screen, default is this profile's own.
-use Rattle.std.specs.Prelude.{false, Option, Some, None}
+use Rattle.std.specs.Prelude.{false, Option, unwrap_or}
 use Rattle.cept_codes.specs.declared.attribute.Flash.TheVariants as flashes
 use Rattle.cept_codes.specs.declared.attribute.Full.{Full}
 use Rattle.cept_codes.specs.declared.attribute.Pen.{Pen}
@@ -7,10 +7,7 @@ use Rattle.cept_codes.specs.declared.attribute.Size.TheVariants as sizes
 
 -- the first that is set, else the default
 abbrev pub first_value : {X : Type 0} → Option X → Option X → Option X → X → X
-first_value (Some x) row screen default = x
-first_value None (Some x) screen default = x
-first_value None None (Some x) default = x
-first_value None None None default = default
+first_value pen row screen default = unwrap_or pen (unwrap_or row (unwrap_or screen default))
 
 -- each class by the pen, else by the row, else by the screen, else the default: white on black, steady, of single size
 abbrev pub cascade : Pen → Pen → Pen → Full

@@ -22,19 +22,22 @@ shifted ways.Up first last blank was r =
 shifted ways.Down first last blank was r =
     if nat_le first r && nat_le r last then (if r == first then blank else was (r - 1)) else was r
 
--- what is at row r after these rows moved, by what was at each row, with a blank one for the row that came free
-abbrev pub value_after_move : {X : Type 0} → Option MovedRows → X → (ℕ → X) → ℕ → X
-value_after_move None blank was r = was r
-value_after_move (Some moved) blank was r = shifted moved.way moved.first moved.last blank was r
-
 -- the cell at row r and column c after a stroke, by the cells before it
 abbrev pub cell_after : Stroke → (ℕ → ℕ → Cell) → ℕ → ℕ → Cell
 cell_after (strokes.Put p cell) was r c = if is_at p r c && not (was r c).protected then cell else was r c
 cell_after (strokes.Erase row from) was r c =
     if r == row && nat_le from c && not (was r c).protected then blank_cell else was r c
 cell_after strokes.Wipe was r c = blank_cell
--- any other changes no cell, and the cells of the rows that it moves go up or down with their protection
-cell_after stroke was r c = value_after_move (moved_rows stroke) blank_cell (λ q. was q c) r
+-- the cells of moved rows go up or down with their protection
+cell_after (strokes.Shift first last way) was r c = shifted way first last blank_cell (λ q. was q c) r
+cell_after (strokes.Carry first last way) was r c = shifted way first last blank_cell (λ q. was q c) r
+-- any other changes no cell
+cell_after _ was r c = was r c
+
+-- what is at row r after these rows moved, by what was at each row, with a blank one for the row that came free
+abbrev pub value_after_move : {X : Type 0} → Option MovedRows → X → (ℕ → X) → ℕ → X
+value_after_move None blank was r = was r
+value_after_move (Some moved) blank was r = shifted moved.way moved.first moved.last blank was r
 
 -- the stroke moves rows
 abbrev pub moves_rows : Stroke → Bool
@@ -48,11 +51,6 @@ is_moved (Some moved) r = nat_le moved.first r && nat_le r moved.last
 -- the stroke moves what stands in row r, or takes it off the screen
 abbrev pub moves : Stroke → ℕ → Bool
 moves stroke r = is_moved (moved_rows stroke) r
-
--- the cell at row r and column c after the strokes, the last first
-unfoldable pub cell_back : List Stroke → ℕ → ℕ → Cell
-cell_back [] r c = blank_cell
-cell_back (stroke ∷ earlier) r c = cell_after stroke (cell_back earlier) r c
 
 -- a table of cells after one stroke
 abbrev pub cells_after : List (List Cell) → Stroke → List (List Cell)

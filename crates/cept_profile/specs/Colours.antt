@@ -1,8 +1,7 @@
 -- Colours: entries in tables of eight (ETS 300 072, colour tables). Which paint each has by default, what invert
 -- exchanges, and that a foreground gives way to the background where it would show the picture behind, are this
 -- profile's own.
-use Rattle.std.specs.Prelude.{ℕ, ◌%◌, List, [], ◌∷◌, slice_index_or, if◌then◌else◌}
-use Rattle.cept_codes.specs.declared.attribute.Full.{Full}
+use Rattle.std.specs.Prelude.{ℕ, ◌%◌, List, [], ◌∷◌, slice_index_or}
 use Rattle.cept_codes.specs.declared.look.Paint.{Paint}
 use Rattle.cept_codes.specs.declared.look.Paint.TheVariants as paints
 use Rattle.cept_codes.specs.Look.{black_paint}
@@ -20,14 +19,6 @@ default_paints =
 -- entries 16 to 31 are as those
 abbrev pub default_paint : ℕ → Paint
 default_paint i = slice_index_or default_paints (i % 16) black_paint
-
--- the paint of the foreground by those of the entries: that of its entry, and under invert that of the background's
-abbrev pub fore_paint : (ℕ → Paint) → Full → Paint
-fore_paint paint_of f = paint_of (if f.invert then f.back else f.fore)
-
--- the paint of the background, exchanged in the same way
-abbrev pub back_paint : (ℕ → Paint) → Full → Paint
-back_paint paint_of f = paint_of (if f.invert then f.fore else f.back)
 
 -- a foreground that would show the picture behind has the paint of the background
 abbrev pub paint_over : Paint → Paint → Paint

@@ -5,13 +5,15 @@ use Rattle.std.specs.Prelude.{◌&&◌, ◌==◌, if◌then◌else◌}
 use Rattle.cept_codes.specs.declared.attribute.Attr.{Attr}
 use Rattle.cept_codes.specs.declared.attribute.Attr.TheVariants as attrs
 use Rattle.cept_codes.specs.declared.attribute.Size.{Size}
+use Rattle.cept_codes.specs.declared.cell.Marker.{Marker}
+use Rattle.cept_codes.specs.declared.cell.Marker.TheVariants as markers
 use Rattle.cept_codes.specs.declared.command.C1Set.{C1Set}
 use Rattle.cept_codes.specs.declared.command.C1Set.TheVariants as c1sets
 use Rattle.cept_codes.specs.declared.command.Command.{Command}
 use Rattle.cept_codes.specs.declared.command.Command.TheVariants as commands
 use Rattle.cept_codes.specs.declared.glyph.SetId.{SetId}
 use Rattle.cept_profile.specs.Control.{ControlState, initial_sets}
-use Rattle.cept_profile.specs.Pens.{attribute_of}
+use Rattle.cept_profile.specs.Pens.{c1_function}
 pub use Rattle.cept_profile.specs.Pens.{fore_in, back_in, conceal_in, lined_in, boxed_in, size_in, invert_in}
 use Rattle.cept_profile.specs.Sets.{set_in}
 
@@ -123,14 +125,14 @@ right_back = last_said (λ earlier. right_said) initial_sets.right
 -- ---- the pen, but its flash
 
 -- only under the parallel set an attribute counts
-abbrev pub parallel_said : {X : Type 0} → (Attr → Option (Option X)) → C1Set → Option Attr → Option (Option X)
-parallel_said class c1sets.Parallel (Some attr) = class attr
+abbrev pub parallel_said : {X : Type 0} → (Attr → Option (Option X)) → C1Set → Option (Attr × Marker) → Option (Option X)
+parallel_said class c1sets.Parallel (Some function) = class function.0
 parallel_said class _ _ = None
 
 -- a class of the pen: a C1 code and StopConceal under the parallel set say it, and what goes home or resets unsets it
 abbrev pub class_said : {X : Type 0} → (Attr → Option (Option X)) → C1Set → ℕ → Command → Option (Option X)
-class_said class c1 table (commands.C1 n) = parallel_said class c1 (attribute_of table n)
-class_said class c1 table commands.StopConceal = parallel_said class c1 (Some (attrs.Conceal false))
+class_said class c1 table (commands.C1 n) = parallel_said class c1 (c1_function table n)
+class_said class c1 table commands.StopConceal = parallel_said class c1 (Some (attrs.Conceal false, markers.Conceal false))
 class_said class c1 table commands.Home = Some None
 class_said class c1 table commands.Clear = Some None
 class_said class c1 table (commands.Position r c) = Some None

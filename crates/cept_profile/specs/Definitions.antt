@@ -5,8 +5,7 @@ use Rattle.cept_codes.specs.declared.look.Inks.{Inks}
 use Rattle.cept_codes.specs.declared.look.Paint.{Paint}
 use Rattle.cept_codes.specs.declared.look.Pattern.{Pattern}
 use Rattle.cept_codes.specs.Look.{black_paint}
-use Rattle.cept_codes.specs.Table.{list_by_index}
-use Rattle.cept_profile.specs.PageParts.{paint_in, dclut_in, list_of_dclut}
+use Rattle.cept_codes.specs.Table.{entry, list_by_index}
 
 -- entry by entry and code by code
 pub record Definitions : Type 0 where
@@ -29,5 +28,5 @@ inks_with paints = record { count = length paints; paints = paints ++ replicate 
 unfoldable pub inks_of : Definitions → ℕ → Inks
 inks_of defined planes =
     if planes == 1 then inks_with [] else
-    if planes == 2 then inks_with (list_of_dclut (λ i. paint_in defined.paints (dclut_in defined.dclut i))) else
-    inks_with (list_by_index 16 16 (paint_in defined.paints))
+    if planes == 2 then inks_with (list_by_index 0 4 (λ i. entry black_paint 0 defined.paints (entry 0 0 defined.dclut i))) else
+    inks_with (list_by_index 16 16 (entry black_paint 0 defined.paints))

@@ -1,6 +1,6 @@
 -- What counts for a cell of those to its left (own): what the cells up to a column leave for those after it, and what
 -- one more cell makes of it.
-use Rattle.std.specs.Prelude.{ℕ, Bool, true, false, ◌&&◌, Option, None, unwrap_or, option_and_then, if◌then◌else◌}
+use Rattle.std.specs.Prelude.{ℕ, Bool, true, false, ◌&&◌, Option, None, unwrap_or, if◌then◌else◌}
 use Rattle.cept_codes.specs.declared.attribute.Full.{Full}
 use Rattle.cept_codes.specs.declared.attribute.Pen.{Pen}
 use Rattle.cept_codes.specs.declared.cell.Marker.{Marker}
@@ -9,8 +9,7 @@ use Rattle.cept_codes.specs.declared.cell.What.{What}
 use Rattle.cept_codes.specs.declared.cell.What.TheVariants as whats
 use Rattle.cept_codes.specs.declared.glyph.Glyph.{Glyph}
 use Rattle.cept_profile.specs.Attributes.{cascade}
-use Rattle.cept_profile.specs.Serial.{acts_there, fore_at, hold_said, is_marker, kept_sign, said, mosaic_of}
-use Rattle.cept_profile.specs.Serial.{nearest_column, pen_of}
+use Rattle.cept_profile.specs.Serial.{acts_there, fore_at, hold_said, is_marker, kept_sign, mosaic_of, nearest_said, pen_of}
 
 -- what the cells up to a column leave: attributes, whether hold is on, and the sign that is kept for markers
 pub record Influence : Type 0 where
@@ -20,15 +19,11 @@ pub record Influence : Type 0 where
 
 -- ---- by looking back
 
--- the nearest marker of a class, wherever it begins to act
-abbrev pub nearest_marker : (ℕ → What) → ℕ → (What → Bool) → Option ℕ
-nearest_marker row c class = nearest_column (λ d. class (row d)) c
-
 -- attributes, hold and the kept sign by the cells up to a column, each marker counted wherever it begins to act
 unfoldable pub influence : (ℕ → What) → Pen → Pen → ℕ → Influence
 influence row pen screen c = record {
-  full = cascade (pen_of row (fore_at row pen screen) (nearest_marker row c)) pen screen;
-  hold = unwrap_or (option_and_then (λ d. hold_said (row d)) (nearest_marker row c (said hold_said))) false;
+  full = cascade (pen_of row (fore_at row pen screen) c) pen screen;
+  hold = unwrap_or (nearest_said (λ d. hold_said (row d)) c) false;
   kept_sign = kept_sign row c;
 }
 

@@ -8,7 +8,6 @@ use Rattle.cept_codes.specs.declared.attribute.Size.{Size}
 use Rattle.cept_codes.specs.declared.stroke.Stroke.{Stroke}
 use Rattle.cept_codes.specs.declared.stroke.Stroke.TheVariants as strokes
 use Rattle.cept_profile.specs.MovedRows.{moved_rows, row_before_move}
-use Rattle.cept_profile.specs.PageParts.{stroke_said}
 use Rattle.cept_profile.specs.Pens.{fore_in, back_in, flash_in, conceal_in, lined_in, boxed_in, size_in, invert_in}
 
 -- attributes by what each class of them is: the foreground, the background, the flash, concealing, lining, boxing, the
@@ -24,6 +23,11 @@ pen_by_class value = record {
   size = value Size size_in;
   invert = value Bool invert_in;
 }
+
+-- what the last stroke says that says anything, else the first value
+abbrev pub stroke_said : {X : Type 0} → (Stroke → Option X) → X → List Stroke → X
+stroke_said says first [] = first
+stroke_said says first (stroke ∷ earlier) = unwrap_or (says stroke) (stroke_said says first earlier)
 
 -- ---- rows
 
@@ -62,3 +66,14 @@ screen_said class _ = None
 -- the attributes of the screen after the strokes: unset at first
 abbrev pub screen_attributes : List Stroke → Pen
 screen_attributes strokes = pen_by_class (λ X class. stroke_said (screen_said class) None strokes)
+
+-- ---- the number of rows
+
+-- what a stroke says of it
+abbrev pub format_said : Stroke → Option ℕ
+format_said (strokes.Format rows) = Some rows
+format_said _ = None
+
+-- the number of rows after the strokes: 24 at first
+abbrev pub format_back : List Stroke → ℕ
+format_back strokes = stroke_said format_said 24 strokes

@@ -2,11 +2,12 @@
 -- scrolling areas are this profile's own).
 use Rattle.std.specs.Prelude.{ℕ, ◌+◌, ◌-◌, Bool, false, Option, Some, None, List, [], ◌∷◌, nat_le, ◌==◌, option_and_then}
 use Rattle.std.specs.Prelude.{if◌then◌else◌}
+use Rattle.cept_codes.specs.declared.cell.What.{What}
 use Rattle.cept_codes.specs.declared.command.Up.{Up}
 use Rattle.cept_codes.specs.declared.command.Up.TheVariants as ways
 use Rattle.cept_codes.specs.declared.stroke.Stroke.{Stroke}
 use Rattle.cept_codes.specs.declared.stroke.Stroke.TheVariants as strokes
-use Rattle.cept_codes.specs.Place.{number}
+use Rattle.cept_codes.specs.Place.{Place, number}
 use Rattle.cept_profile.specs.Working.{Working, ControlState, working_at}
 
 -- the number of the position in reading order
@@ -43,52 +44,40 @@ strokes_of_scroll s way None = []
 strokes_of_scroll s way (Some area) =
     (if s.revision == 2 then strokes.Carry area.0 area.1 way else strokes.Shift area.0 area.1 way) ∷ []
 
--- ---- motions
+-- ---- motions, each with its strokes
 
--- the row below row r: r itself at the last of an area that scrolls; else from the last row 1 with wrap, and r without
-abbrev pub row_below : ControlState → ℕ → ℕ
-row_below s r =
-    if is_last_of (scrolling_area s) r then r else
-    if r == s.rows then (if s.wrap then 1 else r) else
-    r + 1
+-- one row down, to column c: at the last row of an area that scrolls its rows go up, and the row stays; else from the last
+-- row it goes to row 1 with wrap, and stays without
+abbrev pub below : ControlState → ℕ → Working × List Stroke
+below s c =
+    let r = s.working.row in
+    if is_last_of (scrolling_area s) r then (working_at r c s.working, strokes_of_scroll s ways.Up (scrolling_area s)) else
+    (working_at (if r == s.rows then (if s.wrap then 1 else r) else r + 1) c s.working, [])
 
--- the strokes of going below row r: at the last row of an area that scrolls its rows go up
-abbrev pub below_strokes : ControlState → ℕ → List Stroke
-below_strokes s r = if is_last_of (scrolling_area s) r then strokes_of_scroll s ways.Up (scrolling_area s) else []
-
--- the row above row r: r itself at the first of an area that scrolls; else from row 1 the last with wrap, and 1 without
-abbrev pub row_above : ControlState → ℕ → ℕ
-row_above s r =
-    if is_first_of (scrolling_area s) r then r else
-    if r == 1 then (if s.wrap then s.rows else r) else
-    r - 1
-
--- the strokes of going above row r: at the first row of an area that scrolls its rows go down
-abbrev pub above_strokes : ControlState → ℕ → List Stroke
-above_strokes s r = if is_first_of (scrolling_area s) r then strokes_of_scroll s ways.Down (scrolling_area s) else []
+-- one row up, to column c: at the first row of an area that scrolls its rows go down, and the row stays; else from row 1 it
+-- goes to the last row with wrap, and stays without
+abbrev pub above : ControlState → ℕ → Working × List Stroke
+above s c =
+    let r = s.working.row in
+    if is_first_of (scrolling_area s) r then (working_at r c s.working, strokes_of_scroll s ways.Down (scrolling_area s)) else
+    (working_at (if r == 1 then (if s.wrap then s.rows else r) else r - 1) c s.working, [])
 
 -- n columns on: past the last column it goes to the first of the row below with wrap, and to the last without
-abbrev pub working_ahead : ControlState → ℕ → Working → Working
-working_ahead s n w =
-    if nat_le (w.column + n) 40 then working_at w.row (w.column + n) w
-    else if s.wrap then working_at (row_below s w.row) 1 w
-    else working_at w.row 40 w
-
--- its strokes from the position: past the last column with wrap those of going below
-abbrev pub on_strokes : ControlState → ℕ → List Stroke
-on_strokes s n =
-    if nat_le (s.working.column + n) 40 then []
-    else if s.wrap then below_strokes s s.working.row
-    else []
+abbrev pub ahead : ControlState → ℕ → Working × List Stroke
+ahead s n =
+    let w = s.working in
+    if nat_le (w.column + n) 40 then (working_at w.row (w.column + n) w, []) else
+    if s.wrap then below s 1 else (working_at w.row 40 w, [])
 
 -- one column back: before the first column it goes to the last of the row above with wrap, and stays without
-abbrev pub working_back : ControlState → Working → Working
-working_back s w =
-    if w.column == 1 then (if s.wrap then working_at (row_above s w.row) 40 w else w)
-    else working_at w.row (w.column - 1) w
+abbrev pub back : ControlState → Working × List Stroke
+back s =
+    let w = s.working in
+    if w.column == 1 then (if s.wrap then above s 40 else (w, [])) else
+    (working_at w.row (w.column - 1) w, [])
 
--- its strokes from the position: before the first column with wrap those of going above
-abbrev pub back_strokes : ControlState → List Stroke
-back_strokes s =
-    if s.working.column == 1 then (if s.wrap then above_strokes s s.working.row else [])
-    else []
+-- a cell is put at the position, protected as protection says, and the position moves on by n columns
+abbrev pub put : ControlState → What → ℕ → Working × List Stroke
+put s what n =
+    let moved = ahead s n in let place : Place = record { row = s.working.row; column = s.working.column } in
+    (moved.0, strokes.Put place (record { what = what; protected = s.working.protect }) ∷ moved.1)

@@ -1,7 +1,7 @@
 -- Attributes of rows and of the screen, colour entries (in four tables of eight: ETS 300 072), the DCLUT and the
 -- downloaded patterns; which there are, and what sets and unsets each, is this profile's own. An entry is what the last
 -- stroke says that says anything of it, else its value at the start.
-use Rattle.std.specs.Prelude.{ℕ, Option, Some, None, unwrap_or, List, [], ◌∷◌, ◌==◌, if◌then◌else◌}
+use Rattle.std.specs.Prelude.{ℕ, Option, Some, None, List, [], ◌∷◌, ◌==◌, if◌then◌else◌}
 use Rattle.cept_codes.specs.declared.attribute.Pen.{Pen}
 use Rattle.cept_codes.specs.declared.look.Paint.{Paint}
 use Rattle.cept_codes.specs.declared.look.Pattern.{Pattern}
@@ -15,12 +15,7 @@ use Rattle.cept_profile.specs.Colours.{default_paint}
 use Rattle.cept_profile.specs.Cells.{shifted}
 use Rattle.cept_profile.specs.Pens.{pen_with}
 
--- ---- by looking back over the strokes, the last first
-
--- what the last stroke says that says anything, else the first value
-abbrev pub stroke_said : {X : Type 0} → (Stroke → Option X) → X → List Stroke → X
-stroke_said says first [] = first
-stroke_said says first (stroke ∷ earlier) = unwrap_or (says stroke) (stroke_said says first earlier)
+-- ---- one more stroke
 
 -- the attributes of row r after a stroke, by those before it
 abbrev pub row_pen_after : Stroke → (ℕ → Pen) → ℕ → Pen
@@ -37,74 +32,28 @@ screen_pen_after was (strokes.ScreenAttr attr) = pen_with attr was
 screen_pen_after was strokes.ScreenClear = unset_pen
 screen_pen_after was _ = was
 
--- the attributes of row r after the strokes, the last first: unset at first
-abbrev pub row_pen_back : List Stroke → ℕ → Pen
-row_pen_back [] r = unset_pen
-row_pen_back (stroke ∷ earlier) r = row_pen_after stroke (row_pen_back earlier) r
-
--- the attributes of the screen after the strokes, the last first: unset at first
-abbrev pub screen_pen_back : List Stroke → Pen
-screen_pen_back [] = unset_pen
-screen_pen_back (stroke ∷ earlier) = screen_pen_after (screen_pen_back earlier) stroke
-
--- what a stroke says of the colour entry i: the defaults give each its own
-abbrev pub paint_said : ℕ → Stroke → Option Paint
-paint_said i (strokes.Colour j paint) = if j == i then Some paint else None
-paint_said i strokes.ColourDefaults = Some (default_paint i)
-paint_said i _ = None
-
--- what a stroke says of the DCLUT entry i, which at the start names the colour entry of its own number
-abbrev pub dclut_said : ℕ → Stroke → Option ℕ
-dclut_said i (strokes.Dclut j colour) = if j == i then Some colour else None
-dclut_said i strokes.ColourDefaults = Some i
-dclut_said i _ = None
-
--- what a stroke says of the pattern of a code: it is defined, or with all others deleted
-abbrev pub pattern_said : ℕ → Stroke → Option (Option Pattern)
-pattern_said d (strokes.Drcs code pattern) = if code == d then Some (Some pattern) else None
-pattern_said d strokes.DrcsClear = Some None
-pattern_said d _ = None
-
--- what a stroke says of the number of rows
-abbrev pub format_said : Stroke → Option ℕ
-format_said (strokes.Format rows) = Some rows
-format_said _ = None
-
--- the paint of the colour entry i after the strokes
-abbrev pub paint_back : List Stroke → ℕ → Paint
-paint_back strokes i = stroke_said (paint_said i) (default_paint i) strokes
-
--- the DCLUT entry i after the strokes
-abbrev pub dclut_back : List Stroke → ℕ → ℕ
-dclut_back strokes i = stroke_said (dclut_said i) i strokes
-
--- the pattern of a code after the strokes, where one is defined
-abbrev pub pattern_back : List Stroke → ℕ → Option Pattern
-pattern_back strokes d = stroke_said (pattern_said d) None strokes
-
--- the number of rows after the strokes: 24 at first
-abbrev pub format_back : List Stroke → ℕ
-format_back strokes = stroke_said format_said 24 strokes
-
--- ---- one more stroke
-
--- the paint of the colour entry i
+-- the paint of the colour entry i: the defaults give each its own
 abbrev pub paint_after : Stroke → (ℕ → Paint) → ℕ → Paint
 paint_after (strokes.Colour j paint) was i = if j == i then paint else was i
 paint_after strokes.ColourDefaults was i = default_paint i
 paint_after _ was i = was i
 
--- the DCLUT entry i
+-- the DCLUT entry i, which at the start names the colour entry of its own number
 abbrev pub dclut_after : Stroke → (ℕ → ℕ) → ℕ → ℕ
 dclut_after (strokes.Dclut j colour) was i = if j == i then colour else was i
 dclut_after strokes.ColourDefaults was i = i
 dclut_after _ was i = was i
 
--- the pattern of a code
+-- the pattern of a code: it is defined, or with all others deleted
 abbrev pub pattern_after : Stroke → (ℕ → Option Pattern) → ℕ → Option Pattern
 pattern_after (strokes.Drcs code pattern) was d = if code == d then Some pattern else was d
 pattern_after strokes.DrcsClear was d = None
 pattern_after _ was d = was d
+
+-- a part of the page after the strokes, the last first, by what each makes of what the earlier ones left
+abbrev pub left_by : {X : Type 0} → (Stroke → X → X) → X → List Stroke → X
+left_by after first [] = first
+left_by after first (stroke ∷ earlier) = after stroke (left_by after first earlier)
 
 -- ---- the lists of them
 

@@ -6,10 +6,11 @@ use Rattle.std.specs.Prelude.{if◌then◌else◌}
 use Rattle.std.specs.List.{list_any, range_with_len}
 use Rattle.cept_codes.specs.declared.attribute.Size.{Size}
 use Rattle.cept_codes.specs.declared.look.Look.{Look}
+use Rattle.cept_codes.specs.declared.look.Part.{Part}
 use Rattle.cept_codes.specs.Look.{blank_look}
 use Rattle.cept_codes.specs.Same.{same_look}
 use Rattle.cept_codes.specs.Table.{row_of}
-use Rattle.cept_profile.specs.Look.{look_with_part, part_of}
+use Rattle.cept_profile.specs.Look.{part_of}
 use Rattle.cept_profile.specs.Tiling.{column_entry, covers_below, is_covered_from_left, is_high, is_wide, origin_part}
 
 -- forty blank looks
@@ -23,6 +24,14 @@ looks_in g r = column_entry blank_looks g r
 -- the look at row r and column c of a grid; outside it a blank one
 abbrev pub look_seen : List (List Look) → ℕ → ℕ → Look
 look_seen g r c = column_entry blank_look (looks_in g r) c
+
+-- a look with this part in place of its own
+abbrev pub look_with_part : Part → Look → Look
+look_with_part p l = record l { dy = p.dy; dx = p.dx; w = p.w; h = p.h }
+
+-- this part, at row r and column c, of what stands at its origin, dy rows up and dx columns left
+abbrev pub look_of_origin : (ℕ → ℕ → Look) → ℕ → ℕ → Part → Look
+look_of_origin own r c p = look_with_part p (own (r - p.dy) (c - p.dx))
 
 -- ---- one row from the one above it
 

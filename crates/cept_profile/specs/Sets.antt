@@ -35,20 +35,16 @@ sets_with s g set =
 abbrev pub set_in : Sets → ℕ → SetId
 set_in s g = if g == 0 then s.g0 else if g == 1 then s.g1 else if g == 2 then s.g2 else s.g3
 
--- a byte of the left half, 2/0 to 7/15
-abbrev pub is_left : ℕ → Bool
-is_left byte = nat_lt byte 0x80
-
 -- the code of a byte: its seven low bits
 abbrev pub code_of : ℕ → ℕ
 code_of byte = byte % 0x80
 
--- the set of a byte: that of a single shift which waits; else M for a left byte in a mosaic run; else the one locked to
--- its side
+-- the set of a byte: that of a single shift which waits; else M for a left byte, 2/0 to 7/15, in a mosaic run; else the
+-- one locked to its side
 unfoldable pub set_of : Sets → ℕ → Bool → SetId
 set_of s byte run = option_map_or (set_in s) s.single (
-    if run && is_left byte then sets.M else
-    if is_left byte then set_in s s.left else
+    if run && nat_lt byte 0x80 then sets.M else
+    if nat_lt byte 0x80 then set_in s s.left else
     set_in s s.right)
 
 -- an accent's code

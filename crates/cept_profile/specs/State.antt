@@ -8,19 +8,19 @@ use Rattle.cept_codes.specs.declared.look.Pattern.{Pattern}
 use Rattle.cept_codes.specs.declared.stroke.Stroke.{Stroke}
 use Rattle.cept_codes.specs.Attribute.{unset_pen}
 use Rattle.cept_codes.specs.Cell.{blank_cell}
-use Rattle.cept_codes.specs.Table.{table}
-use Rattle.cept_profile.specs.Cells.{cell_back, cells_after_all}
+use Rattle.cept_codes.specs.Table.{list_by_index, table}
+use Rattle.cept_profile.specs.Cells.{cell_after, cells_after_all}
 use Rattle.cept_profile.specs.Colours.{default_paint}
 use Rattle.cept_profile.specs.Control.{ControlState, control, control_after}
 use Rattle.cept_profile.specs.Definitions.{Definitions}
-use Rattle.cept_profile.specs.PageParts.{row_pen_back, screen_pen_back, paint_back, dclut_back, pattern_back}
+use Rattle.cept_profile.specs.PageParts.{left_by, row_pen_after, paint_after, dclut_after, pattern_after}
 use Rattle.cept_profile.specs.PageParts.{list_of_rows, list_of_colours, list_of_dclut, list_of_codes, part_after_all}
 use Rattle.cept_profile.specs.PageParts.{row_pens_after, screen_pen_after, paints_after, dclut_list_after}
 use Rattle.cept_profile.specs.PageParts.{patterns_after}
 use Rattle.cept_profile.specs.Strokes.{strokes_back, strokes_of}
 
 -- what a page keeps: a table of its cells, the attributes of its rows and of the screen, the paints of the 32 colour
--- entries, the colour entries that the DCLUT names, and the patterns of the 94 codes of the downloaded set
+-- entries, the colour entries that the DCLUT names, and the patterns of the 94 codes of the downloaded set, 2/1 to 7/14
 pub record Page : Type 0 where
   pub cells : List (List Cell)
   pub row_pens : List Pen
@@ -72,21 +72,17 @@ blank_page = record {
 -- the page that strokes leave, the last first: each part by looking back over all of them
 abbrev pub page_back : List Stroke → Page
 page_back strokes = record {
-  cells = table (cell_back strokes);
-  row_pens = list_of_rows (row_pen_back strokes);
-  screen_pen = screen_pen_back strokes;
-  paints = list_of_colours (paint_back strokes);
-  dclut = list_of_dclut (dclut_back strokes);
-  patterns = list_of_codes (pattern_back strokes);
+  cells = table (left_by cell_after (λ r c. blank_cell) strokes);
+  row_pens = list_by_index 1 24 (left_by row_pen_after (λ r. unset_pen) strokes);
+  screen_pen = left_by (λ stroke was. screen_pen_after was stroke) unset_pen strokes;
+  paints = list_by_index 0 32 (left_by paint_after default_paint strokes);
+  dclut = list_by_index 0 4 (left_by dclut_after (λ i. i) strokes);
+  patterns = list_by_index 0x21 94 (left_by pattern_after (λ d. None) strokes);
 }
-
--- the page that the commands leave
-abbrev pub page : List Command → Page
-page history = page_back (strokes_back (reverse history))
 
 -- the state that the commands leave
 abbrev pub state : List Command → State
-state history = record { page = page history; control = control history }
+state history = record { page = page_back (strokes_back (reverse history)); control = control history }
 
 -- the core that the commands leave
 abbrev pub core : List Command → Core

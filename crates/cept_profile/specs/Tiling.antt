@@ -18,13 +18,13 @@ use Rattle.std.specs.Prelude.{
   zero,
   suc,
 }
-use Rattle.std.specs.Prelude.{List, length, map, slice_index_or, if◌then◌else◌}
+use Rattle.std.specs.Prelude.{List, length, map, if◌then◌else◌}
 use Rattle.std.specs.List.{range_with_len}
 use Rattle.cept_codes.specs.declared.attribute.Size.{Size}
 use Rattle.cept_codes.specs.declared.attribute.Size.TheVariants as sizes
 use Rattle.cept_codes.specs.declared.look.Part.{Part}
 use Rattle.cept_codes.specs.Place.{OnScreen}
-use Rattle.cept_codes.specs.Table.{IsTable, row_of}
+use Rattle.cept_codes.specs.Table.{IsTable, entry, row_of}
 
 -- ---- sizes and parts
 
@@ -56,19 +56,19 @@ single_part = record { dy = 0; dx = 0; w = 1; h = 1 }
 abbrev pub covers_below : Part → Bool
 covers_below p = p.dy == 0 && p.h == 2
 
+-- the left neighbour, if of the left side of a wide sign, covers the place to its right, unless covered itself from above
+abbrev pub is_covered_from_left : Part → Part → Bool
+is_covered_from_left above_left left = not (covers_below above_left) && (left.dx == 0 && left.w == 2)
+
 -- a part of the left side of a wide sign
 abbrev pub covers_right : Part → Bool
 covers_right p = p.dx == 0 && p.w == 2
-
--- the left neighbour covers the place to its right, unless it is itself covered from above
-abbrev pub is_covered_from_left : Part → Part → Bool
-is_covered_from_left above_left left = not (covers_below above_left) && covers_right left
 
 -- ---- rows and tables of parts
 
 -- what stands in this column of a row, from 1, and the default outside the row
 abbrev pub column_entry : {X : Type 0} → X → List X → ℕ → X
-column_entry default row c = if c == 0 then default else slice_index_or row (c - 1) default
+column_entry default row c = entry default 1 row c
 
 -- forty whole signs
 abbrev pub flat_parts : List Part
@@ -80,7 +80,7 @@ parts_in t r = column_entry flat_parts t r
 
 -- the part at row r and column c; outside the table a whole sign
 abbrev pub part_at : List (List Part) → ℕ → ℕ → Part
-part_at t r c = column_entry single_part (parts_in t r) c
+part_at t r c = entry single_part 1 (entry (row_of (λ _. single_part)) 1 t r) c
 
 -- ---- the conditions on a finished table
 
@@ -126,11 +126,11 @@ part_from above wanted last (suc c) =
 
 -- the one row that is tiled beneath these parts
 unfoldable pub tiled_row : List Part → (ℕ → Size) → Bool → List Part
-tiled_row above wanted last = row_of (part_from (column_entry single_part above) wanted last)
+tiled_row above wanted last = row_of (part_from (entry single_part 1 above) wanted last)
 
 -- the rows of the one tiled table, from 1; above the first all are whole signs
 unfoldable pub tiled_rows : (ℕ → ℕ → Size) → (ℕ → Bool) → ℕ → List Part
-tiled_rows wanted is_last zero = flat_parts
+tiled_rows wanted is_last zero = row_of (λ _. single_part)
 tiled_rows wanted is_last (suc r) = tiled_row (tiled_rows wanted is_last r) (wanted (suc r)) (is_last (suc r))
 
 -- the one tiled table

@@ -70,18 +70,10 @@ control_with s w = record s { working = w }
 abbrev pub working_at : ℕ → ℕ → Working → Working
 working_at r c w = record w { row = r; column = c }
 
--- the state with other sets
-abbrev pub working_with_sets : Sets → Working → Working
-working_with_sets sets w = record w { sets = sets }
-
 -- defaults: all but the position is as at the start, under this C1 set
 abbrev pub working_by_default : C1Set → Working → Working
 working_by_default set w = record initial_working { row = w.row; column = w.column; c1 = set }
 
--- the mosaic run is over, and signs move on by one column again
-abbrev pub working_without_run : Working → Working
-working_without_run w = record w { run = false; step = 1 }
-
--- no class of the pen is set, and no fast flash is in force
-abbrev pub working_without_pen : Working → Working
-working_without_pen w = record w { pen = unset_pen; fast = 0 }
+-- at a place where no class of the pen is set, no fast flash is in force, no mosaic run goes on, and signs move on by one column
+abbrev pub working_afresh : ℕ → ℕ → Working → Working
+working_afresh r c w = record w { row = r; column = c; pen = unset_pen; fast = 0; run = false; step = 1 }

@@ -1,7 +1,7 @@
 -- Looks to the right of a column in which a cell is put: a cell looks as it did by itself where no marker is put or
 -- covered and none stands between, and a place shows what it did where its neighbours do.
 use Rattle.std.proofs.Common.{◌≡◌, ◌≢◌, ℕ, zero, suc, ◌+◌, ◌-◌, ◌<◌, ◌≤◌, ◌⊎◌, ◌&&◌, not, Bool, true, false, List, Option, cond}
-use Rattle.std.proofs.Common.{[], ◌∷◌, inl, inr, refl, sym, ap, subst, ◌∙◌, arith}
+use Rattle.std.proofs.Common.{None, [], ◌∷◌, inl, inr, refl, sym, ap, subst, ◌∙◌, arith}
 use Rattle.std.proofs.lemmas.Bool.{cases_eq, true≢false}
 use Rattle.std.proofs.lemmas.Bool.Decides.{nat_tests}
 use Rattle.cept_codes.specs.declared.attribute.Pen.{Pen}
@@ -21,7 +21,7 @@ use Rattle.cept_profile.specs.Cells.{cell_after, cells_after, is_at}
 use Rattle.cept_profile.specs.Definitions.{Definitions}
 use Rattle.cept_profile.specs.Edges.{edges_of_core, is_last}
 use Rattle.cept_profile.specs.Influence.{Influence, full_after, influence, influence_after}
-use Rattle.cept_profile.specs.Look.{look, look_in_row, look_with, looks_of, shape_in, shape_of, size_in_row}
+use Rattle.cept_profile.specs.Look.{look, look_in_row, look_with, looks_of, shape_in, size_in_row}
 use Rattle.cept_profile.specs.PageParts.{paint_in, row_pen_in}
 use Rattle.cept_profile.specs.RowsFromAbove.{look_from, look_seen, looks_in}
 use Rattle.cept_profile.specs.Serial.{held_sign, is_marker, own_attributes, own_attributes_of, serial_attributes}
@@ -85,7 +85,7 @@ serial-same f g pen screen (suc c) low same here plain =
 
 -- a sign is drawn as itself, whatever is held
 shape_in-sign : (defined : Definitions) (w : What) (held : Option Glyph) → is_marker w ≡ false
-    → shape_in defined w held ≡ shape_of defined w
+    → shape_in defined w held ≡ shape_in defined w None
 shape_in-sign defined (whats.Marker m) held plain = absurd (true≢false plain)
 shape_in-sign defined w held plain = refl
 
@@ -96,7 +96,7 @@ unfolding look_in_row
 look-sign defined f g pen screen c low same here plain =
     ap (λ s. look_with (paint_in defined.paints) s (own_attributes f pen screen c))
     (shape_in-sign defined (f c) (held_sign f c) (ap is_marker here ∙ plain))
-    ∙ (λ i. look_with (paint_in defined.paints) (shape_of defined (here i))
+    ∙ (λ i. look_with (paint_in defined.paints) (shape_in defined (here i) None)
     (own_attributes_of (here i) pen screen (serial-same f g pen screen c low same here plain i)))
     ∙ ap (λ s. look_with (paint_in defined.paints) s (own_attributes g pen screen c))
     (sym (shape_in-sign defined (g c) (held_sign g c) plain))

@@ -3,6 +3,7 @@ use Rattle.std.proofs.Common.{◌≡◌, ℕ, ◌+◌, ◌-◌, ◌<◌, ◌≤�
 use Rattle.std.proofs.Common.{◌∷◌, ◌++◌, ◌⊎◌, inl, inr, Option, Some, None, get_or, take, length, refl, sym, ap, ◌∙◌, arith}
 use Rattle.std.specs.Prelude.{IfSome, option_and_then}
 use Rattle.std.specs.List.{AllByRecursion}
+use Rattle.std.specs.Option.{option_map_or}
 use Rattle.std.proofs.lemmas.List.{take_all, take_more}
 use Rattle.cept_codes.specs.declared.command.Up.{Up}
 use Rattle.cept_codes.specs.declared.command.Up.TheVariants as ways
@@ -13,7 +14,7 @@ use Rattle.cept_codes.specs.Place.{Place}
 use Rattle.cept_codes.specs.Stroke.{IsRow, IsValidStroke}
 use Rattle.cept_codes.specs.Table.{entry, list_by_index}
 use Rattle.cept_codes.proofs.Laws.{entry-list_by_index, list_by_index-entry, length-list_by_index, same_indexed}
-use Rattle.cept_profile.specs.Cells.{shifted, value_after_move}
+use Rattle.cept_profile.specs.Cells.{shifted}
 use Rattle.cept_profile.specs.MovedRows.{MovedRows, moved_rows, row_before, row_before_move}
 use Rattle.cept_profile.specs.Reach.{is_written, writes, writes_where}
 use Rattle.cept_profile.proofs.Laws.{row_before-on}
@@ -41,7 +42,8 @@ shifted-picked ways.Down first last d f r = picked-cond d f (leb first r && leb 
 
 -- what moved rows bring is what stood in the row of which this one came
 pub moved-picked : {X : Type 0} (moved : Option MovedRows) (d : X) (f : ℕ → X) (r : ℕ)
-    → value_after_move moved d f r ≡ picked d f (row_before_move moved r)
+    → option_map_or (λ (m : MovedRows). shifted m.way m.first m.last d f r) moved (f r)
+    ≡ picked d f (row_before_move moved r)
 moved-picked None d f r = refl
 moved-picked (Some moved) d f r = shifted-picked moved.way moved.first moved.last d f r
 

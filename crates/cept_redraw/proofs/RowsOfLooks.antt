@@ -1,9 +1,8 @@
 -- Rows of a grid of looks: read, compared, and what covers the places below them.
-use Rattle.std.proofs.Common.{◌≡◌, ℕ, ◌+◌, ◌-◌, ◌<◌, ◌≤◌, ◌==◌, ◌||◌, Bool, true, false, not, List, [], length}
+use Rattle.std.proofs.Common.{◌≡◌, ℕ, ◌+◌, ◌-◌, ◌<◌, ◌≤◌, ◌||◌, Bool, true, false, not, List, [], length}
 use Rattle.std.proofs.Common.{get_or, set, sym, ap, ◌∙◌, arith}
 use Rattle.std.specs.List.{list_any, range_with_len}
-use Rattle.std.proofs.lemmas.Bool.{and_right, cond-false}
-use Rattle.std.proofs.lemmas.Bool.Decides.{nat_tests}
+use Rattle.std.proofs.lemmas.Bool.{and_right}
 use Rattle.std.proofs.lemmas.List.{ext_get_or, get_or_default, get_or-set_same, set-get_or}
 use Rattle.std.proofs.lemmas.List.Elements.{All-from_get_or}
 use Rattle.std.proofs.lemmas.List.Folds.{list_any_none}
@@ -24,8 +23,7 @@ use Rattle.cept_redraw.specs.inside.Kept.{is_other_above}
 -- ---- rows read
 
 pub column_entry-at : {X : Type 0} (d : X) (xs : List X) (c : ℕ) → 1 ≤ c → column_entry d xs c ≡ get_or xs (c - 1) d
-column_entry-at d xs c low =
-    let some : (c == 0) ≡ false = grind (arith, nat_tests) in cond-false (c == 0) d (get_or xs (c - 1) d) some
+column_entry-at d xs c low = entry_from d 1 xs c low
 
 pub looks_in-at : (g : List (List Look)) (r : ℕ) → IsTable g → 1 ≤ r → r ≤ 24 → looks_in g r ≡ get_or g (r - 1) []
 looks_in-at g r is low high =

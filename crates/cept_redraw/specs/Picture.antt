@@ -1,9 +1,8 @@
 -- A page with the looks that are kept of it, and what it is for it to be redrawn, refreshed and restored (this project's
 -- own).
-use Rattle.std.specs.Prelude.{ℕ, ◌≡◌, ◌≤◌, ◌+◌, Bool, List, [], ◌∷◌, Option, Some, option_map}
+use Rattle.std.specs.Prelude.{ℕ, ◌≡◌, ◌≤◌, ◌+◌, Bool, List, [], Option, Some, option_map}
 use Rattle.std.specs.List.{AllByRecursion}
 use Rattle.cept_codes.specs.declared.stroke.Stroke.{Stroke}
-use Rattle.cept_codes.specs.declared.stroke.Stroke.TheVariants as strokes
 use Rattle.cept_codes.specs.Stroke.{IsValidStroke}
 use Rattle.cept_profile.specs.Changes.{differences}
 use Rattle.cept_profile.specs.Edges.{Edges, edges_of_core}
@@ -13,7 +12,6 @@ use Rattle.cept_profile.specs.OldValues.{OldValues, page_unwound}
 use Rattle.cept_profile.specs.State.{Core, Page, page_after}
 use Rattle.cept_profile.specs.Valid.{IsValidPage}
 use Rattle.cept_page.specs.Behind.{page_behind}
-use Rattle.cept_control.specs.declared.graphic.PutCell.{PutCell}
 use Rattle.cept_redraw.specs.declared.picture.Picture.{Picture}
 use Rattle.cept_redraw.specs.Kept.{AreEdges, AreLooksOn, core_on}
 use Rattle.cept_redraw.specs.Named.{AreNamedOn}
@@ -29,10 +27,6 @@ pub record IsKeptOn (picture : Picture) (edges : Edges) : Type 0 where
   pub named : AreNamedOn picture.names picture.page edges
 
 -- ---- redrawn by strokes
-
--- the strokes where one cell is put, and nothing else
-abbrev pub put_alone : PutCell → List Stroke
-put_alone put = strokes.Put put.place put.cell ∷ []
 
 -- strokes that may be drawn on a page: each is valid, so is the page after them, and none of its rows goes down by more
 -- than one

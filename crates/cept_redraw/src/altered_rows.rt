@@ -8,6 +8,7 @@ ghost use Rattle.cept_profile.specs.PageParts.{row_pen_in};
 ghost use Rattle.cept_profile.specs.Reach.{just_one};
 ghost use Rattle.cept_profile.specs.Valid.{IsValidPage};
 ghost use Rattle.cept_page.specs.Parts.{pens_of};
+ghost use Rattle.cept_control.specs.SignWithin.{put_alone};
 ghost use Rattle.cept_redraw.specs.inside.Due.{AreCompared, followed, has_others, is_altered, is_altered_from};
 ghost use Rattle.cept_redraw.specs.Resolved.{defines};
 
@@ -18,7 +19,7 @@ use cept_page::{Page, Pens};
 
 /// The cell that is put, where that is the only stroke.
 pub(crate) fn only_put(strokes: &[Stroke]) -> Option<PutCell>
-    ensures { IfSome result (λ put. strokes.now ≡ Stroke.Put put.place put.cell ∷ []) }
+    ensures { IfSome result (λ put. strokes.now ≡ put_alone put) }
 {
     if strokes.len() != 1 {
         return None;

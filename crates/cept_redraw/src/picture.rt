@@ -1,7 +1,7 @@
 ghost use Rattle.std.specs.Prelude.{◌≡◌, IfOk, []};
 ghost use Rattle.cept_codes.specs.Look.{blank_look};
 ghost use Rattle.cept_codes.specs.Table.{table};
-ghost use Rattle.cept_profile.specs.State.{Core, page};
+ghost use Rattle.cept_profile.specs.State.{Core, state};
 ghost use Rattle.cept_redraw.specs.Named.{AreNamed};
 
 use crate::kept_names::KeptNames;
@@ -26,7 +26,7 @@ pub struct Picture {
 impl Picture {
     /// The page at the start, of which all looks are blank and no names are known.
     pub fn new(alloc: Global) -> Result<Picture, NoMemory>
-        ensures page { IfOk result (λ picture. picture.page ≡ page []) }
+        ensures page { IfOk result (λ picture. picture.page ≡ (state []).page) }
         ensures looks { IfOk result (λ picture. picture.looks ≡ table (λ _ _. blank_look)) }
         ensures names { IfOk result (λ picture. (k : Core) → AreNamed picture.names k) }
     {

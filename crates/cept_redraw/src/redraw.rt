@@ -17,13 +17,14 @@ ghost use Rattle.cept_profile.specs.Valid.{IsValidPage};
 ghost use Rattle.cept_page.specs.Behind.{page_behind};
 ghost use Rattle.cept_page.specs.Parts.{pens_of};
 ghost use Rattle.cept_page.specs.MarkedRows.{StandsAlone};
+ghost use Rattle.cept_control.specs.SignWithin.{put_alone};
 ghost use Rattle.cept_redraw.specs.inside.Due.{at_rest, followed, is_altered};
 ghost use Rattle.cept_redraw.specs.Kept.{core_on};
 ghost use Rattle.cept_redraw.specs.inside.Kept.{OthersStay, look_alone, is_other_look};
 ghost use Rattle.cept_redraw.specs.Marks.{no_marks};
 ghost use Rattle.cept_redraw.specs.inside.Named.{AreAllKnown, AreJustRemembered, IsUnmarkedBelow};
-ghost use Rattle.cept_redraw.specs.Picture.{AreDrawable, AreTicksOf, IsKeptOn, IsNotedAlong, IsRedrawn};
-ghost use Rattle.cept_redraw.specs.Picture.{IsRedrawnAlong, MayBeRedrawn, put_alone};
+ghost use Rattle.cept_redraw.specs.Picture.{IsNotedAlong, IsRedrawn};
+ghost use Rattle.cept_redraw.specs.Picture.{IsRedrawnAlong, MayBeRedrawn};
 ghost use Rattle.cept_redraw.specs.inside.Picture.{AreRowsRedrawn, IsRefreshedOn, MayBeRefreshedDown};
 ghost use Rattle.cept_redraw.specs.inside.Picture.{just_row};
 ghost use Rattle.cept_redraw.specs.Resolved.{one_else};
@@ -84,13 +85,9 @@ impl Picture {
         noter: &mut N,
         steps: &mut Steps<L>,
     )
-        requires kept { IsKeptOn self.old (edges_of control.now) }
-        requires strokes { AreDrawable strokes.now self.old.page }
-        ensures redrawn { IsRedrawn strokes.now (edges_of control.now) self.old self.new marks.new }
-        ensures ticks { AreTicksOf strokes.now (edges_of control.now) (edges_of control.now) self.old self.new
-            steps.old steps.new }
-        ensures noted { IsNotedAlong strokes.now (N.noted noter.old) self.old.page (N.noted noter.new)
-            self.new.page }
+        requires { MayBeRedrawn strokes.now (edges_of control.now) (edges_of control.now) self.old }
+        ensures { IsRedrawnAlong strokes.now (edges_of control.now) (edges_of control.now) self.old self.new
+            marks.new steps.old steps.new (N.noted noter.old) (N.noted noter.new) }
     {
         if let Some(put) = only_put(strokes) {
             self.redraw_put(&put, control, marks, noter, steps);
@@ -113,13 +110,9 @@ impl Picture {
         noter: &mut N,
         steps: &mut Steps<L>,
     )
-        requires kept { IsKeptOn self.old (edges_of control.now) }
-        requires strokes { AreDrawable (put_alone put.now) self.old.page }
-        ensures redrawn { IsRedrawn (put_alone put.now) (edges_of control.now) self.old self.new marks.new }
-        ensures ticks { AreTicksOf (put_alone put.now) (edges_of control.now) (edges_of control.now) self.old
-            self.new steps.old steps.new }
-        ensures noted { IsNotedAlong (put_alone put.now) (N.noted noter.old) self.old.page (N.noted noter.new)
-            self.new.page }
+        requires { MayBeRedrawn (put_alone put.now) (edges_of control.now) (edges_of control.now) self.old }
+        ensures { IsRedrawnAlong (put_alone put.now) (edges_of control.now) (edges_of control.now) self.old
+            self.new marks.new steps.old steps.new (N.noted noter.old) (N.noted noter.new) }
     {
         marks.clear();
         // A law: a cell shows in no place to its left.

@@ -1,14 +1,12 @@
 -- Looks written in a row of an array of rows.
-use Rattle.std.proofs.Common.{◌≡◌, ℕ, ◌+◌, ◌-◌, ◌<◌, ◌≤◌, ◌==◌, Bool, List, [], false, length, cond, get_or, set, sym, ap}
+use Rattle.std.proofs.Common.{◌≡◌, ℕ, ◌+◌, ◌-◌, ◌<◌, ◌≤◌, Bool, List, [], false, length, cond, get_or, set, sym, ap}
 use Rattle.std.proofs.Common.{◌∙◌, arith}
-use Rattle.std.proofs.lemmas.Bool.{cond-false}
-use Rattle.std.proofs.lemmas.Bool.Decides.{nat_tests}
 use Rattle.std.proofs.lemmas.List.{get_or_default}
 use Rattle.cept_codes.specs.declared.look.Look.{Look}
 use Rattle.cept_codes.specs.Look.{blank_look}
 use Rattle.cept_codes.specs.Place.{Place, OnScreen}
 use Rattle.cept_codes.specs.Table.{IsTable, entry, row_of, table}
-use Rattle.cept_codes.proofs.Laws.{rows_are, set_is}
+use Rattle.cept_codes.proofs.Laws.{entry_from, rows_are, set_is}
 use Rattle.cept_profile.specs.Changes.{grid_with_paint}
 use Rattle.cept_profile.specs.RowsFromAbove.{blank_looks, looks_in}
 use Rattle.cept_profile.specs.Tiling.{column_entry}
@@ -28,9 +26,8 @@ painted_in_row rows p looks i column row new e is on er low ec read made =
 row_is : (rows : List (List Look)) (r i : ℕ) (row e : List Look) → IsTable rows → 1 ≤ r → r ≤ 24 → i ≡ r - 1
     → row ≡ get_or rows i e → row ≡ looks_in rows r
 row_is rows r i row e is low high at read =
-    let some : (r == 0) ≡ false = grind (arith, nat_tests) in
     read ∙ get_or_default rows i e blank_looks (omega (arith, is.rows, at)) ∙ ap (λ k. get_or rows k blank_looks) at
-    ∙ sym (cond-false (r == 0) blank_looks (get_or rows (r - 1) blank_looks) some)
+    ∙ sym (entry_from blank_looks 1 rows r low)
 
 -- the looks of flagged columns
 pub flagged_row_is : (rows : List (List Look)) (flags : List Bool) (r i : ℕ) (looks row new e : List Look) → IsTable rows

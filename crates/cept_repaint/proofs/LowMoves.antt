@@ -19,16 +19,18 @@ use Rattle.cept_codes.specs.declared.glyph.Read.{Read}
 use Rattle.cept_codes.specs.declared.glyph.Read.TheVariants as reads
 use Rattle.cept_codes.specs.declared.stroke.Stroke.{Stroke}
 use Rattle.cept_codes.specs.declared.stroke.Stroke.TheVariants as strokes
-use Rattle.cept_profile.specs.Control.{ControlState, state_for_effect}
-use Rattle.cept_profile.specs.Markers.{marker_of, strokes_of_marker}
-use Rattle.cept_profile.specs.Motions.{above_strokes, area_in_force, back_strokes, below_strokes, on_strokes, strokes_of_scroll}
-use Rattle.cept_profile.specs.Motions.{is_first_of, is_last_of, scrolling_area}
+use Rattle.cept_profile.specs.Control.{ControlState, Working, state_for_effect}
+use Rattle.cept_profile.specs.Motions.{area_in_force, strokes_of_scroll}
+use Rattle.cept_profile.specs.Motions.{scrolling_area}
 use Rattle.cept_profile.specs.MovedRows.{MovedRows, moved_rows, row_before, row_before_move, row_within}
-use Rattle.cept_profile.specs.Pens.{attribute_of, flash_of, strokes_of_function}
-use Rattle.cept_profile.specs.Strokes.{strokes_of, strokes_when}
-use Rattle.cept_profile.specs.Writing.{control_after_copies, graphic_read, sign_with_accent, strokes_of_copies, strokes_of_read}
-use Rattle.cept_profile.specs.Writing.{strokes_of_repeat, strokes_of_sign}
-use Rattle.cept_profile.proofs.Laws.{strokes_of_copies-more, strokes_of_copies-none}
+use Rattle.cept_profile.specs.Pens.{c1_function, flash_of}
+use Rattle.cept_profile.specs.Strokes.{strokes_of}
+use Rattle.cept_profile.specs.Writing.{control_after_shift, graphic_read, sign_with_accent}
+use Rattle.cept_profile.proofs.Laws.{above_strokes, back_strokes, below_strokes, by_above_strokes, by_back_strokes}
+use Rattle.cept_profile.proofs.Laws.{by_below_strokes, by_on_strokes, control_after_copies, flashing, on_strokes, revealing}
+use Rattle.cept_profile.proofs.Laws.{strokes_of_copies, strokes_of_function, strokes_of_marker, strokes_of_read}
+use Rattle.cept_profile.proofs.Laws.{strokes_of_repeat, strokes_of_sign, strokes_when}
+use Rattle.cept_profile.proofs.Laws.{effect_of_copies-more, effect_of_copies-none}
 
 -- ---- one stroke
 
@@ -112,15 +114,11 @@ up-scroll s None = refl
 up-scroll s (Some area) =
     up-one (s.revision == 2) (strokes.Carry area.0 area.1 ways.Up) (strokes.Shift area.0 area.1 ways.Up) refl refl
 
-up-below : (s : ControlState) (r : ℕ) → GoesUp (below_strokes s r)
-up-below s r =
-    up-cond (is_last_of (scrolling_area s) r) (strokes_of_scroll s ways.Up (scrolling_area s)) []
-    (up-scroll s (scrolling_area s)) refl
+up-below : (s : ControlState) (c : ℕ) → GoesUp (below_strokes s c)
+up-below s c = by_below_strokes GoesUp s c refl (up-scroll s (scrolling_area s))
 
 up-on : (s : ControlState) (n : ℕ) → GoesUp (on_strokes s n)
-up-on s n =
-    up-cond _ [] (cond s.wrap (below_strokes s s.working.row) []) refl
-    (up-cond s.wrap (below_strokes s s.working.row) [] (up-below s s.working.row) refl)
+up-on s n = by_on_strokes GoesUp s n refl (up-scroll s (scrolling_area s))
 
 up-sign : (s : ControlState) (g : Glyph) → GoesUp (strokes_of_sign s g)
 up-sign s g = up-on s _
@@ -130,10 +128,11 @@ up-read s (reads.Accent code) = refl
 up-read s (reads.Glyph g) = up-sign s (sign_with_accent g.set g.code s.working.accent)
 
 up-copies : (n : ℕ) (s : ControlState) (g : Glyph) → GoesUp (strokes_of_copies n s g)
-up-copies zero s g = ap (list_any goes_down) (strokes_of_copies-none s g)
+up-copies zero s g = ap (λ (made : Working × List Stroke). list_any goes_down made.1) (effect_of_copies-none s g)
 up-copies (suc n) s g =
     let next : n + 1 ≡ suc n = omega arith in
-    ap (λ m. list_any goes_down (strokes_of_copies m s g)) (sym next) ∙ ap (list_any goes_down) (strokes_of_copies-more n s g)
+    ap (λ m. list_any goes_down (strokes_of_copies m s g)) (sym next)
+    ∙ ap (λ (made : Working × List Stroke). list_any goes_down made.1) (effect_of_copies-more n s g)
     ∙ up-append (strokes_of_copies n s g) (strokes_of_sign (control_after_copies n s g) g) (up-copies n s g)
     (up-sign (control_after_copies n s g) g)
 
@@ -144,18 +143,22 @@ up-repeat n s (Some g) = up-copies n s g
 up-marker : (s : ControlState) (m : Marker) → GoesUp (strokes_of_marker s m)
 up-marker s m = up-on s 1
 
-up-function : (c1 : C1Set) (m : Option Marker) (s : ControlState) → GoesUp (strokes_of_function c1 m s)
-up-function c1sets.Parallel m s = refl
-up-function c1sets.Serial None s = refl
-up-function c1sets.Serial (Some m) s = up-marker s m
+up-function : (c1 : C1Set) (function : Option (Attr × Marker)) (fast : ℕ) (s : ControlState)
+    → GoesUp (strokes_of_function c1 function fast s)
+up-function c1sets.Parallel None fast s = refl
+up-function c1sets.Parallel (Some function) fast s = refl
+up-function c1sets.Serial None fast s = refl
+up-function c1sets.Serial (Some function) fast s = up-marker s function.1
 
-up-screen : (attr : Option Attr) → GoesUp (map (λ attr. strokes.ScreenAttr attr) (option_to_list attr))
+up-screen : (function : Option (Attr × Marker))
+    → GoesUp (map (λ f. strokes.ScreenAttr f.0) (option_to_list function))
 up-screen None = refl
-up-screen (Some attr) = refl
+up-screen (Some function) = refl
 
-up-row : (r : ℕ) (attr : Option Attr) → GoesUp (map (λ attr. strokes.RowAttr r attr) (option_to_list attr))
+up-row : (r : ℕ) (function : Option (Attr × Marker))
+    → GoesUp (map (λ f. strokes.RowAttr r f.0) (option_to_list function))
 up-row r None = refl
-up-row r (Some attr) = refl
+up-row r (Some function) = refl
 
 -- ---- rows that go down by one at most
 
@@ -192,31 +195,27 @@ low-scroll s way None = low-up [] refl
 low-scroll s way (Some area) =
     low-one (cond (s.revision == 2) (strokes.Carry area.0 area.1 way) (strokes.Shift area.0 area.1 way))
 
-low-above : (s : ControlState) (r : ℕ) → GoesLow (above_strokes s r)
-low-above s r =
-    low-cond (is_first_of (scrolling_area s) r) (strokes_of_scroll s ways.Down (scrolling_area s)) []
-    (low-scroll s ways.Down (scrolling_area s)) (low-up [] refl)
+low-above : (s : ControlState) (c : ℕ) → GoesLow (above_strokes s c)
+low-above s c = by_above_strokes GoesLow s c (low-up [] refl) (low-scroll s ways.Down (scrolling_area s))
 
 low-back : (s : ControlState) → GoesLow (back_strokes s)
-low-back s =
-    low-cond _ (cond s.wrap (above_strokes s s.working.row) []) []
-    (low-cond s.wrap (above_strokes s s.working.row) [] (low-above s s.working.row) (low-up [] refl)) (low-up [] refl)
+low-back s = by_back_strokes GoesLow s (low-up [] refl) (low-scroll s ways.Down (scrolling_area s))
 
 low : (s : ControlState) (command : Command) → GoesLow (strokes_when s command)
 low s commands.Back = low-back s
 low s commands.Forward = low-up _ (up-on s 1)
-low s commands.Down = low-up _ (up-below s s.working.row)
-low s commands.Up = low-above s s.working.row
+low s commands.Down = low-up _ (up-below s s.working.column)
+low s commands.Up = low-above s s.working.column
 low s commands.Clear = low-up _ refl
-low s (commands.Graphic byte) = low-up _ (up-read s (graphic_read s byte))
+low s (commands.Graphic byte) = low-up _ (up-read (control_after_shift s) (graphic_read s byte))
 low s (commands.Repeat n) = low-up _ (up-repeat n s s.working.last)
 low s commands.Cancel = low-up _ refl
-low s (commands.C1 n) = low-up _ (up-function s.working.c1 (marker_of s.working.table n) s)
+low s (commands.C1 n) = low-up _ (up-function s.working.c1 (c1_function s.working.table n) _ s)
 low s (commands.FlashMode k) =
-    low-up _ (up-function s.working.c1 (Some (markers.Flash (flash_of k s.working.fast))) s)
-low s commands.StopConceal = low-up _ (up-function s.working.c1 (Some (markers.Conceal false)) s)
-low s (commands.FullScreen n) = low-up _ (up-screen (attribute_of s.working.table n))
-low s (commands.FullRow n) = low-up _ (up-row s.working.row (attribute_of s.working.table n))
+    low-up _ (up-function s.working.c1 (flashing (flash_of k s.working.fast)) _ s)
+low s commands.StopConceal = low-up _ (up-function s.working.c1 revealing _ s)
+low s (commands.FullScreen n) = low-up _ (up-screen (c1_function s.working.table n))
+low s (commands.FullRow n) = low-up _ (up-row s.working.row (c1_function s.working.table n))
 low s commands.ColourDefaults = low-up _ refl
 low s (commands.Entry i colour) = low-up _ refl
 low s (commands.Dclut i entry) = low-up _ refl

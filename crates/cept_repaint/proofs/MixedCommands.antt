@@ -19,22 +19,24 @@ use Rattle.cept_codes.specs.declared.command.Up.TheVariants as ways
 use Rattle.cept_codes.specs.declared.glyph.Glyph.{Glyph}
 use Rattle.cept_codes.specs.declared.stroke.Stroke.{Stroke}
 use Rattle.cept_codes.specs.declared.stroke.Stroke.TheVariants as strokes
-use Rattle.cept_profile.specs.Control.{ControlState, control_after, control_effect, state_for_effect}
+use Rattle.cept_profile.specs.Control.{ControlState, Working, control_after, state_for_effect}
 use Rattle.cept_profile.specs.Edges.{Edges, edges_of}
-use Rattle.cept_profile.specs.Markers.{marker_of, strokes_of_marker}
-use Rattle.cept_profile.specs.Motions.{above_strokes, area_in_force, back_strokes, below_strokes, on_strokes, strokes_of_scroll}
-use Rattle.cept_profile.specs.Motions.{is_first_of, is_last_of, scrolling_area}
+use Rattle.cept_profile.specs.Motions.{area_in_force, strokes_of_scroll}
+use Rattle.cept_profile.specs.Motions.{scrolling_area}
 use Rattle.cept_profile.specs.MovedRows.{row_before}
-use Rattle.cept_profile.specs.Pens.{attribute_of, flash_of, strokes_of_function}
+use Rattle.cept_profile.specs.Pens.{c1_function, flash_of}
 use Rattle.cept_profile.specs.Reach.{is_reached, is_reached_from, is_written, reaches, rows_in_reach}
 use Rattle.cept_codes.specs.declared.glyph.Read.{Read}
 use Rattle.cept_codes.specs.declared.glyph.Read.TheVariants as reads
 use Rattle.cept_profile.specs.State.{Core, State, core_of, state_after}
-use Rattle.cept_profile.specs.Strokes.{strokes_of, strokes_when}
-use Rattle.cept_profile.specs.Writing.{control_after_copies, graphic_read, sign_with_accent, strokes_of_copies, strokes_of_read}
-use Rattle.cept_profile.specs.Writing.{strokes_of_repeat, strokes_of_sign}
-use Rattle.cept_profile.proofs.Laws.{is_reached-by, reaches-by, rows_in_reach-counted, strokes_of_copies-more}
-use Rattle.cept_profile.proofs.Laws.{strokes_of_copies-none}
+use Rattle.cept_profile.specs.Strokes.{strokes_of}
+use Rattle.cept_profile.specs.Writing.{control_after_shift, graphic_read, sign_with_accent}
+use Rattle.cept_profile.proofs.Laws.{above_strokes, back_strokes, below_strokes, by_above_strokes, by_back_strokes}
+use Rattle.cept_profile.proofs.Laws.{by_below_strokes, by_on_strokes, control_after_copies, control_effect, flashing, on_strokes}
+use Rattle.cept_profile.proofs.Laws.{strokes_of_copies, strokes_of_function, strokes_of_marker, strokes_of_read}
+use Rattle.cept_profile.proofs.Laws.{revealing, strokes_of_repeat, strokes_of_sign, strokes_when}
+use Rattle.cept_profile.proofs.Laws.{is_reached-by, reaches-by, rows_in_reach-counted}
+use Rattle.cept_profile.proofs.Laws.{effect_of_copies-more, effect_of_copies-none}
 use Rattle.cept_redraw.specs.Resolved.{are_same_edges, defines, is_same_area, may_resolve, mixes, one_else}
 use Rattle.cept_redraw.specs.Resolved.{rows_resolved_by}
 
@@ -65,25 +67,17 @@ none-scroll : (s : ControlState) (way : Up) (area : Option (ℕ × ℕ)) → Def
 none-scroll s way None = refl
 none-scroll s way (Some area) = none-one (s.revision == 2) (strokes.Carry area.0 area.1 way) (strokes.Shift area.0 area.1 way) refl refl
 
-none-below : (s : ControlState) (r : ℕ) → DefinesNothing (below_strokes s r)
-none-below s r =
-    none-cond (is_last_of (scrolling_area s) r) (strokes_of_scroll s ways.Up (scrolling_area s)) []
-    (none-scroll s ways.Up (scrolling_area s)) refl
+none-below : (s : ControlState) (c : ℕ) → DefinesNothing (below_strokes s c)
+none-below s c = by_below_strokes DefinesNothing s c refl (none-scroll s ways.Up (scrolling_area s))
 
-none-above : (s : ControlState) (r : ℕ) → DefinesNothing (above_strokes s r)
-none-above s r =
-    none-cond (is_first_of (scrolling_area s) r) (strokes_of_scroll s ways.Down (scrolling_area s)) []
-    (none-scroll s ways.Down (scrolling_area s)) refl
+none-above : (s : ControlState) (c : ℕ) → DefinesNothing (above_strokes s c)
+none-above s c = by_above_strokes DefinesNothing s c refl (none-scroll s ways.Down (scrolling_area s))
 
 none-on : (s : ControlState) (n : ℕ) → DefinesNothing (on_strokes s n)
-none-on s n =
-    none-cond _ [] (cond s.wrap (below_strokes s s.working.row) []) refl
-    (none-cond s.wrap (below_strokes s s.working.row) [] (none-below s s.working.row) refl)
+none-on s n = by_on_strokes DefinesNothing s n refl (none-scroll s ways.Up (scrolling_area s))
 
 none-back : (s : ControlState) → DefinesNothing (back_strokes s)
-none-back s =
-    none-cond _ (cond s.wrap (above_strokes s s.working.row) []) []
-    (none-cond s.wrap (above_strokes s s.working.row) [] (none-above s s.working.row) refl) refl
+none-back s = by_back_strokes DefinesNothing s refl (none-scroll s ways.Down (scrolling_area s))
 
 none-sign : (s : ControlState) (g : Glyph) → DefinesNothing (strokes_of_sign s g)
 none-sign s g = none-on s _
@@ -93,10 +87,11 @@ none-read s (reads.Accent code) = refl
 none-read s (reads.Glyph g) = none-sign s (sign_with_accent g.set g.code s.working.accent)
 
 none-copies : (n : ℕ) (s : ControlState) (g : Glyph) → DefinesNothing (strokes_of_copies n s g)
-none-copies zero s g = ap (list_any defines) (strokes_of_copies-none s g)
+none-copies zero s g = ap (λ (made : Working × List Stroke). list_any defines made.1) (effect_of_copies-none s g)
 none-copies (suc n) s g =
     let next : n + 1 ≡ suc n = omega arith in
-    ap (λ m. list_any defines (strokes_of_copies m s g)) (sym next) ∙ ap (list_any defines) (strokes_of_copies-more n s g)
+    ap (λ m. list_any defines (strokes_of_copies m s g)) (sym next)
+    ∙ ap (λ (made : Working × List Stroke). list_any defines made.1) (effect_of_copies-more n s g)
     ∙ none-append (strokes_of_copies n s g) (strokes_of_sign (control_after_copies n s g) g) (none-copies n s g)
     (none-sign (control_after_copies n s g) g)
 
@@ -107,18 +102,22 @@ none-repeat n s (Some g) = none-copies n s g
 none-marker : (s : ControlState) (m : Marker) → DefinesNothing (strokes_of_marker s m)
 none-marker s m = none-on s 1
 
-none-function : (c1 : C1Set) (m : Option Marker) (s : ControlState) → DefinesNothing (strokes_of_function c1 m s)
-none-function c1sets.Parallel m s = refl
-none-function c1sets.Serial None s = refl
-none-function c1sets.Serial (Some m) s = none-marker s m
+none-function : (c1 : C1Set) (function : Option (Attr × Marker)) (fast : ℕ) (s : ControlState)
+    → DefinesNothing (strokes_of_function c1 function fast s)
+none-function c1sets.Parallel None fast s = refl
+none-function c1sets.Parallel (Some function) fast s = refl
+none-function c1sets.Serial None fast s = refl
+none-function c1sets.Serial (Some function) fast s = none-marker s function.1
 
-none-screen : (attr : Option Attr) → DefinesNothing (map (λ attr. strokes.ScreenAttr attr) (option_to_list attr))
+none-screen : (function : Option (Attr × Marker))
+    → DefinesNothing (map (λ f. strokes.ScreenAttr f.0) (option_to_list function))
 none-screen None = refl
-none-screen (Some attr) = refl
+none-screen (Some function) = refl
 
-none-row : (r : ℕ) (attr : Option Attr) → DefinesNothing (map (λ attr. strokes.RowAttr r attr) (option_to_list attr))
+none-row : (r : ℕ) (function : Option (Attr × Marker))
+    → DefinesNothing (map (λ f. strokes.RowAttr r f.0) (option_to_list function))
 none-row r None = refl
-none-row r (Some attr) = refl
+none-row r (Some function) = refl
 
 -- ---- three kinds of commands
 
@@ -133,18 +132,18 @@ kind : (s : ControlState) (command : Command) → Kind s command
 unfolding one_else is_written row_before
 kind s commands.Back = inl (none-back s)
 kind s commands.Forward = inl (none-on s 1)
-kind s commands.Down = inl (none-below s s.working.row)
-kind s commands.Up = inl (none-above s s.working.row)
+kind s commands.Down = inl (none-below s s.working.column)
+kind s commands.Up = inl (none-above s s.working.column)
 kind s commands.Clear = inl refl
-kind s (commands.Graphic byte) = inl (none-read s (graphic_read s byte))
+kind s (commands.Graphic byte) = inl (none-read (control_after_shift s) (graphic_read s byte))
 kind s (commands.Repeat n) = inl (none-repeat n s s.working.last)
 kind s commands.Cancel = inl refl
-kind s (commands.C1 n) = inl (none-function s.working.c1 (marker_of s.working.table n) s)
+kind s (commands.C1 n) = inl (none-function s.working.c1 (c1_function s.working.table n) _ s)
 kind s (commands.FlashMode k) =
-    inl (none-function s.working.c1 (Some (markers.Flash (flash_of k s.working.fast))) s)
-kind s commands.StopConceal = inl (none-function s.working.c1 (Some (markers.Conceal false)) s)
-kind s (commands.FullScreen n) = inl (none-screen (attribute_of s.working.table n))
-kind s (commands.FullRow n) = inl (none-row s.working.row (attribute_of s.working.table n))
+    inl (none-function s.working.c1 (flashing (flash_of k s.working.fast)) _ s)
+kind s commands.StopConceal = inl (none-function s.working.c1 revealing _ s)
+kind s (commands.FullScreen n) = inl (none-screen (c1_function s.working.table n))
+kind s (commands.FullRow n) = inl (none-row s.working.row (c1_function s.working.table n))
 kind s commands.ColourDefaults = inr (inl (refl, refl))
 kind s (commands.Entry i colour) = inr (inl (refl, refl))
 kind s (commands.Dclut i entry) = inr (inl (refl, refl))

@@ -3,9 +3,10 @@ use Rattle.std.proofs.Common.{◌≡◌, false, Option, Some, None, refl, ap, �
 use Rattle.std.proofs.lemmas.Bool.{true≢false}
 use Rattle.cept_codes.specs.declared.command.Command.{Command}
 use Rattle.cept_codes.specs.declared.command.Command.TheVariants as commands
-use Rattle.cept_profile.specs.Control.{ControlState, control_after, control_after_service, state_for_effect}
+use Rattle.cept_profile.specs.Control.{ControlState, control_after, state_for_effect}
 use Rattle.cept_profile.specs.Edges.{edges_of}
 use Rattle.cept_profile.specs.Working.{Working}
+use Rattle.cept_profile.proofs.Laws.{control_after_service}
 use Rattle.cept_repaint.specs.inside.MovedEdges.{may_move_edges}
 
 after_service : (s : ControlState) (kept : Option Working) → edges_of (control_after_service s kept) ≡ edges_of s

@@ -8,7 +8,7 @@ use Rattle.cept_codes.specs.declared.look.Look.{Look}
 use Rattle.cept_codes.specs.Look.{blank_look}
 use Rattle.cept_codes.specs.Table.{list_by_index, row_of, table}
 use Rattle.cept_delta.specs.Noted.{notes_row, notes_screen}
-use Rattle.cept_profile.specs.Cells.{cell_back, cells_after_all}
+use Rattle.cept_profile.specs.Cells.{cells_after_all}
 use Rattle.cept_profile.specs.Colours.{default_paints}
 use Rattle.cept_profile.specs.Definitions.{inks_of}
 use Rattle.cept_profile.specs.Edges.{edges_of_core}
@@ -18,12 +18,12 @@ use Rattle.cept_profile.specs.OldValues.{no_old_values}
 use Rattle.cept_profile.specs.PageParts.{part_after_all}
 use Rattle.cept_profile.specs.Reach.{rows_in_reach}
 use Rattle.cept_profile.specs.RowsFromAbove.{is_covered_otherwise}
-use Rattle.cept_profile.specs.Serial.{column_in_force, is_holding, kept_sign, serial_attributes}
+use Rattle.cept_profile.specs.Serial.{is_holding, kept_sign, serial_attributes}
 use Rattle.cept_profile.specs.Sets.{read_as, set_of}
 use Rattle.cept_profile.specs.State.{State, core, core_of, state, state_after}
 use Rattle.cept_profile.specs.Strokes.{strokes_of}
 use Rattle.cept_profile.specs.Tiling.{part_from, tiled_row, tiled_rows, tiled_table}
-use Rattle.cept_profile.specs.Writing.{control_after_copies, strokes_of_copies}
+use Rattle.cept_profile.specs.Writing.{effect_of_copies}
 use Rattle.cept_profile.proofs.Laws.{grid-none}
 use Rattle.cept_redraw.specs.Renewed.{is_renewed_from, rows_renewed}
 use Rattle.cept_redraw.specs.Restored.{is_unwound, rows_unwound}
@@ -65,8 +65,7 @@ module _ (s : State) (c d : Command) where
 -- a letter in the first place renews the first row
 renewed_here : is_renewed_from (looks_of (core [])) (row_before (strokes_of (state []).control (Graphic 0x41)) 1)
     (looks_of (core_of (state_after (state []) (Graphic 0x41)))) 1 ≡ true
-unfolding table row_of cell_back set_of read_as look_of default_paints list_by_index control_after_copies
-    strokes_of_copies row_before size_in_row serial_attributes column_in_force is_holding kept_sign tiled_table
+unfolding table row_of set_of read_as look_of default_paints list_by_index effect_of_copies row_before size_in_row serial_attributes is_holding kept_sign tiled_table
     tiled_rows tiled_row part_from cells_after_all part_after_all look look_in_row inks_of
 renewed_here = refl
 

@@ -8,18 +8,22 @@ use Rattle.cept_flash.specs.Flashing.{FlashingGrid}
 use Rattle.cept_flash.specs.Phases.{frame, next_phase}
 use Rattle.cept_outside.specs.SinkState.{SinkState, Gains, GainsPart}
 use Rattle.cept_outside.proofs.Laws.{Gains-nil, Gains-append}
-use Rattle.cept_profile.specs.Changes.{differences, marked_looks}
-use Rattle.cept_report.specs.Phases.{start_lines, turn_lines, phase_lines}
+use Rattle.cept_profile.specs.Changes.{differences, changes_between, marked_looks}
+use Rattle.cept_report.specs.Phases.{turn_lines, phase_lines}
 use Rattle.cept_report.specs.Text.{change_lines}
 use Rattle.cept_report.proofs.LinesPut.{Gains-part}
 use Rattle.cept_report.proofs.TextsInPieces.{pieces, pieces-none, pieces-more, pieces-go_on}
 
--- the lines of the start and of the first turns
+-- the lines of the start
+unfoldable pub start_lines : List (List Look) → List ℕ
+start_lines g = change_lines 0 (changes_between (table (λ _ _. blank_look)) (frame g 0))
+
+-- those of the start and of the first turns
 unfoldable pub lines_so_far : List (List Look) → ℕ → List ℕ
 lines_so_far g n = start_lines g ++ pieces (turn_lines g) 1 n
 
 pub phase_lines-is : (g : List (List Look)) (turns : ℕ) → phase_lines g turns ≡ lines_so_far g turns
-unfolding phase_lines lines_so_far pieces
+unfolding phase_lines lines_so_far start_lines pieces
 phase_lines-is g turns = refl
 
 so_far-none : (g : List (List Look)) → lines_so_far g 0 ≡ start_lines g

@@ -9,9 +9,8 @@ use Rattle.cept_outside.proofs.Laws.{Gains-nil, Gains-append}
 use Rattle.cept_profile.specs.Changes.{look_at, marked_looks, marked_looks_below}
 use Rattle.cept_profile.proofs.Laws.{marked_looks_below-unmarked}
 use Rattle.cept_redraw.specs.Marks.{IsFirstFrom}
-use Rattle.cept_report.specs.Front.{front_text}
+use Rattle.cept_report.specs.Front.{cell_line, front_text}
 use Rattle.cept_report.specs.Gathered.{GainsFront, Gathers}
-use Rattle.cept_report.specs.Screen.{cell_line}
 use Rattle.cept_report.specs.Text.{change_line, change_lines, fields_text, shape_text}
 use Rattle.cept_report.proofs.LinesPut.{Gains-part, lines-next, text-goes_on}
 

@@ -11,7 +11,7 @@ use Rattle.cept_charsets.specs.Rendition.{mark}
 use Rattle.cept_report.specs.Screen.{shape_sign, look_sign, cell_text}
 use Rattle.cept_codes.specs.declared.line_reason.LineReason.TheVariants as line_reasons
 use Rattle.cept_report.specs.Text.{look_text, shape_text, nothing_line, script_fault_line, load_line}
-use Rattle.cept_report.specs.Text.{line_reason_number, line_reason_name}
+use Rattle.cept_report.specs.Text.{named_line_reason}
 
 -- an a with diaeresis, white on magenta
 abbrev pub umlaut : Look
@@ -53,7 +53,7 @@ undo_without_an_edit_is_reported = refl
 
 pub fault_of_a_script_is_reported : script_fault_line 2 line_reasons.BadNumber
     ≡ codes "script line 2: 3 BadNumber\n"
-unfolding line_reason_number line_reason_name digits
+unfolding named_line_reason digits
 fault_of_a_script_is_reported = refl
 
 pub loaded_page_is_reported : load_line 140003 20001 7 ≡ codes "bytes 140003 items 20001 paints 7\n"

@@ -11,7 +11,7 @@ use Rattle.cept_codes.specs.Look.{blank_look}
 use Rattle.cept_codes.specs.Table.{row_of, table}
 use Rattle.cept_flash.specs.Phases.{frame}
 use Rattle.cept_profile.specs.Changes.{differences, marked_looks}
-use Rattle.cept_report.specs.Phases.{phase_lines, start_lines, turn_lines}
+use Rattle.cept_report.specs.Phases.{phase_lines, turn_lines}
 use Rattle.cept_report.specs.Text.{change_lines, shape_text}
 
 -- a white A that flashes so
@@ -27,7 +27,7 @@ two = table (λ r c.
 through_three_turns : phase_lines two 3
     ≡ codes "0 1 1 P41 11.00 FFF 000 S---\n" ++ codes "0 24 40 P41 11.00 FFF 000 S---\n"
     ++ codes "3 1 1 - 11.00 FFF 000 S---\n" ++ codes "3 24 40 P41 11.00 777 000 S---\n"
-unfolding phase_lines start_lines turn_lines change_lines shape_text digits table row_of differences marked_looks frame
+unfolding phase_lines turn_lines change_lines shape_text digits table row_of differences marked_looks frame
 through_three_turns = refl
 
 -- the sixth turn leads to the first phase again

@@ -5,7 +5,7 @@ use Rattle.cept_codes.specs.declared.item.Reason.{Reason}
 use Rattle.cept_codes.specs.declared.item.Reason.TheVariants as reasons
 use Rattle.cept_codes.specs.declared.line_reason.LineReason.{LineReason}
 use Rattle.cept_codes.specs.declared.line_reason.LineReason.TheVariants as line_reasons
-use Rattle.cept_report.specs.Text.{check_line, line_reason_name, line_reason_number, reason_name, reason_number}
+use Rattle.cept_report.specs.Text.{check_line, named_line_reason, named_reason}
 use Rattle.cept_report.specs.Text.{refusal_line, script_fault_line}
 
 -- places, lengths and reasons of refused items, each with its line
@@ -22,7 +22,7 @@ each_reason : refused (
     ∷ (6, 1, reasons.BadParameter, codes "! 6 1 5 BadParameter\n")
     ∷ (4, 1, reasons.Interrupted, codes "! 4 1 6 Interrupted\n")
     ∷ (16777215, 99, reasons.Truncated, codes "! 16777215 99 7 Truncated\n") ∷ [])
-unfolding reason_number reason_name digits
+unfolding named_reason digits
 each_reason = refl
 
 -- numbers and reasons of lines that are outside the grammar, each with the line that says so
@@ -38,7 +38,7 @@ each_reason_of_a_line : faulty (
     ∷ (9, line_reasons.BadText, codes "script line 9: 4 BadText\n")
     ∷ (10, line_reasons.BadHex, codes "script line 10: 5 BadHex\n")
     ∷ (1048576, line_reasons.BadBytes, codes "script line 1048576: 6 BadBytes\n") ∷ [])
-unfolding line_reason_number line_reason_name digits
+unfolding named_line_reason digits
 each_reason_of_a_line = refl
 
 -- how many items there are, and how many of them are refused, with the line of a check

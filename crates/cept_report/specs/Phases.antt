@@ -8,14 +8,11 @@ use Rattle.cept_flash.specs.Phases.{frame}
 use Rattle.cept_profile.specs.Changes.{changes_between}
 use Rattle.cept_report.specs.Text.{change_lines}
 
--- the places that aren't blank at phase 0
-unfoldable pub start_lines : List (List Look) → List ℕ
-start_lines g = change_lines 0 (changes_between (table (λ _ _. blank_look)) (frame g 0))
-
 -- the places that turn t changes, of turns that are counted from 1
 unfoldable pub turn_lines : List (List Look) → ℕ → List ℕ
 turn_lines g t = change_lines t (changes_between (frame g ((t - 1) % 6)) (frame g (t % 6)))
 
--- those of the start, and of so many turns after it
+-- the places that aren't blank at phase 0, and those that each of so many turns changes
 unfoldable pub phase_lines : List (List Look) → ℕ → List ℕ
-phase_lines g turns = start_lines g ++ flat_map (turn_lines g) (range_with_len 1 turns)
+phase_lines g turns =
+    change_lines 0 (changes_between (table (λ _ _. blank_look)) (frame g 0)) ++ flat_map (turn_lines g) (range_with_len 1 turns)

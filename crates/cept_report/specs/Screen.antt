@@ -32,13 +32,9 @@ row_line g r = flat_map (λ c. look_sign (value_at blank_look g r c)) (range_wit
 unfoldable pub screen_text : List (List Look) → ℕ → List ℕ
 screen_text g rows = flat_map (row_line g) (range_with_len 1 rows)
 
--- the row, the column and the look
-abbrev pub cell_line : Place → Look → List ℕ
-cell_line p l = line_of (decimal p.row ∷ decimal p.column ∷ look_text l ∷ [])
-
--- the line of a place, and none where its look is blank
+-- the line of a place, its row, its column and its look; and none where its look is blank
 unfoldable pub cell_text : Place → Look → List ℕ
-cell_text p l = if same_look l blank_look then [] else cell_line p l
+cell_text p l = if same_look l blank_look then [] else line_of (decimal p.row ∷ decimal p.column ∷ look_text l ∷ [])
 
 -- the lines of the places in so many rows from the top, in reading order
 unfoldable pub cells_text : List (List Look) → ℕ → List ℕ

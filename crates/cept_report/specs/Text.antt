@@ -43,30 +43,23 @@ set_letter sets.M = ascii "M"
 set_letter sets.N = ascii "N"
 set_letter sets.D = ascii "D"
 
--- a plus and the accent's code, where there is an accent
-abbrev pub accent_text : ℕ → List ℕ
-accent_text accent = if accent == 0 then [] else ascii "+" ∷ hex_byte accent
-
--- the set's letter, the code and the accent
+-- the set's letter and the code, and where there is an accent a plus and its code
 abbrev pub sign_text : Glyph → List ℕ
-sign_text g = set_letter g.set ∷ hex_byte g.code ++ accent_text g.accent
+sign_text g = set_letter g.set ∷ hex_byte g.code ++ (if g.accent == 0 then [] else ascii "+" ∷ hex_byte g.accent)
 
 -- red, green and blue as a digit each, or three minus signs for the picture behind
 abbrev pub paint_text : Paint → List ℕ
 paint_text (paints.Ink c) = hex_digit c.r ∷ hex_digit c.g ∷ hex_digit c.b ∷ []
 paint_text paints.Video = codes "---"
 
--- the words of 64 bits that the pixels of all planes need, in order
-abbrev pub pixel_words : Pattern → List ℕ
-pixel_words p = take (div_ceil (p.w * p.h * p.planes) 64) p.bits
-
 -- the width, the height and the number of planes of patterns
 abbrev pub form_text : ℕ → ℕ → ℕ → List ℕ
 form_text w h planes = join_with_byte (ascii "x") (decimal w ∷ decimal h ∷ decimal planes ∷ [])
 
--- a percent sign, the form, and the words of the pixels
+-- a percent sign, the form, and the words of 64 bits that the pixels of all planes need
 unfoldable pub pattern_text : Pattern → List ℕ
-pattern_text p = ascii "%" ∷ form_text p.w p.h p.planes ++ ascii "/" ∷ flat_map hex_word (pixel_words p)
+pattern_text p =
+    ascii "%" ∷ form_text p.w p.h p.planes ++ ascii "/" ∷ flat_map hex_word (take (div_ceil (p.w * p.h * p.planes) 64) p.bits)
 
 -- the paints of all inks, where a pattern has more than one plane
 unfoldable pub ink_texts : ℕ → Inks → List ℕ
@@ -129,30 +122,20 @@ unfoldable pub change_lines : ℕ → List (Place × Look) → List ℕ
 change_lines label [] = []
 change_lines label (x ∷ xs) = change_line label x.0 x.1 ++ change_lines label xs
 
--- the number of a reason
-unfoldable pub reason_number : Reason → ℕ
-reason_number reasons.UnassignedControl = 1
-reason_number reasons.UnknownEscape = 2
-reason_number reasons.UnknownCsi = 3
-reason_number reasons.UnknownUnit = 4
-reason_number reasons.BadParameter = 5
-reason_number reasons.Interrupted = 6
-reason_number reasons.Truncated = 7
-
--- the name of a reason
-unfoldable pub reason_name : Reason → List ℕ
-reason_name reasons.UnassignedControl = codes "UnassignedControl"
-reason_name reasons.UnknownEscape = codes "UnknownEscape"
-reason_name reasons.UnknownCsi = codes "UnknownCsi"
-reason_name reasons.UnknownUnit = codes "UnknownUnit"
-reason_name reasons.BadParameter = codes "BadParameter"
-reason_name reasons.Interrupted = codes "Interrupted"
-reason_name reasons.Truncated = codes "Truncated"
+-- the number and the name of a reason
+unfoldable pub named_reason : Reason → ℕ × List ℕ
+named_reason reasons.UnassignedControl = (1, codes "UnassignedControl")
+named_reason reasons.UnknownEscape = (2, codes "UnknownEscape")
+named_reason reasons.UnknownCsi = (3, codes "UnknownCsi")
+named_reason reasons.UnknownUnit = (4, codes "UnknownUnit")
+named_reason reasons.BadParameter = (5, codes "BadParameter")
+named_reason reasons.Interrupted = (6, codes "Interrupted")
+named_reason reasons.Truncated = (7, codes "Truncated")
 
 -- an exclamation mark, the place, the length, and the reason's number and name
 abbrev pub refusal_line : ℕ → ℕ → Reason → List ℕ
 refusal_line place size reason =
-    line_of (codes "!" ∷ decimal place ∷ decimal size ∷ decimal (reason_number reason) ∷ reason_name reason ∷ [])
+    line_of (codes "!" ∷ decimal place ∷ decimal size ∷ decimal (named_reason reason).0 ∷ (named_reason reason).1 ∷ [])
 
 -- how many items there are, and how many of them are refused
 abbrev pub check_line : ℕ → ℕ → List ℕ
@@ -162,29 +145,20 @@ check_line items refused = line_of (codes "items" ∷ decimal items ∷ codes "r
 abbrev pub nothing_line : ℕ → List ℕ
 nothing_line line = line_of (decimal line ∷ codes "nothing" ∷ [])
 
--- the number of a reason of a script's line
-unfoldable pub line_reason_number : LineReason → ℕ
-line_reason_number line_reasons.UnknownWord = 1
-line_reason_number line_reasons.WrongCount = 2
-line_reason_number line_reasons.BadNumber = 3
-line_reason_number line_reasons.BadText = 4
-line_reason_number line_reasons.BadHex = 5
-line_reason_number line_reasons.BadBytes = 6
-
--- the name of a reason of a script's line
-unfoldable pub line_reason_name : LineReason → List ℕ
-line_reason_name line_reasons.UnknownWord = codes "UnknownWord"
-line_reason_name line_reasons.WrongCount = codes "WrongCount"
-line_reason_name line_reasons.BadNumber = codes "BadNumber"
-line_reason_name line_reasons.BadText = codes "BadText"
-line_reason_name line_reasons.BadHex = codes "BadHex"
-line_reason_name line_reasons.BadBytes = codes "BadBytes"
+-- the number and the name of a reason of a script's line
+unfoldable pub named_line_reason : LineReason → ℕ × List ℕ
+named_line_reason line_reasons.UnknownWord = (1, codes "UnknownWord")
+named_line_reason line_reasons.WrongCount = (2, codes "WrongCount")
+named_line_reason line_reasons.BadNumber = (3, codes "BadNumber")
+named_line_reason line_reasons.BadText = (4, codes "BadText")
+named_line_reason line_reasons.BadHex = (5, codes "BadHex")
+named_line_reason line_reasons.BadBytes = (6, codes "BadBytes")
 
 -- the number of the script's line that is outside the grammar, a colon, and the reason's number and name
 abbrev pub script_fault_line : ℕ → LineReason → List ℕ
 script_fault_line line reason =
-    line_of (codes "script" ∷ codes "line" ∷ (decimal line ++ ascii ":" ∷ []) ∷ decimal (line_reason_number reason)
-    ∷ line_reason_name reason ∷ [])
+    line_of (codes "script" ∷ codes "line" ∷ (decimal line ++ ascii ":" ∷ []) ∷ decimal (named_line_reason reason).0
+    ∷ (named_line_reason reason).1 ∷ [])
 
 -- how many bytes a page has, how many items, and how many places its commands change, one command after the other
 abbrev pub load_line : ℕ → ℕ → ℕ → List ℕ

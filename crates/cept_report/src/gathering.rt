@@ -9,7 +9,7 @@ ghost use Rattle.cept_profile.specs.State.{core_of};
 ghost use Rattle.cept_report.specs.Ascii.{ascii};
 ghost use Rattle.cept_report.specs.Gathered.{Gathers};
 ghost use Rattle.cept_report.specs.Room.{GathersShape, HasRoomFor};
-ghost use Rattle.cept_report.specs.Screen.{cell_line};
+ghost use Rattle.cept_report.specs.Front.{cell_line};
 ghost use Rattle.cept_report.specs.Text.{shape_text};
 
 use crate::ending::{Ending, add_ending};

@@ -5,9 +5,8 @@ ghost use Rattle.cept_report.specs.Front.{front_text, place_text};
 ghost use Rattle.cept_report.specs.Screen.{cell_text};
 ghost use Rattle.cept_report.specs.Room.{Adds, HasRoomFor};
 ghost use Rattle.cept_report.specs.Ascii.{ascii};
-ghost use Rattle.cept_report.specs.Text.{reason_number, reason_name, check_line};
+ghost use Rattle.cept_report.specs.Text.{named_reason, named_line_reason, check_line};
 ghost use Rattle.cept_report.specs.Text.{refusal_line, nothing_line, script_fault_line, load_line};
-ghost use Rattle.cept_report.specs.Text.{line_reason_number, line_reason_name};
 
 use crate::line::{Line, add_byte, add_number, add_small, add_text};
 use crate::look::add_look;
@@ -106,9 +105,9 @@ pub fn check_line(items: u64, refused: u64) -> Line
     line
 }
 
-#[tactic(auto, unfolding(crate::specs::Text::reason_number))]
+#[tactic(auto, unfolding(crate::specs::Text::named_reason))]
 fn number_of(reason: Reason) -> u8
-    ensures { result ≡ reason_number reason }
+    ensures { result ≡ (named_reason reason).0 }
 {
     match reason {
         Reason::UnassignedControl => 1,
@@ -122,10 +121,10 @@ fn number_of(reason: Reason) -> u8
 }
 
 /// Adds the name of a reason.
-#[tactic(auto, unfolding(crate::specs::Text::reason_name))]
+#[tactic(auto, unfolding(crate::specs::Text::named_reason))]
 pub fn add_reason_name(line: &mut Line, reason: Reason)
     requires { HasRoomFor 17 line.old }
-    ensures { Adds line.old 17 (reason_name reason) line.new }
+    ensures { Adds line.old 17 (named_reason reason).1 line.new }
 {
     match reason {
         Reason::UnassignedControl => add_text(line, b"UnassignedControl"),
@@ -141,7 +140,7 @@ pub fn add_reason_name(line: &mut Line, reason: Reason)
 fn add_reason(line: &mut Line, reason: Reason)
     requires { HasRoomFor 38 line.old }
     ensures { Adds line.old 38
-        (decimal (reason_number reason) ++ ascii " " ∷ reason_name reason) line.new }
+        (decimal (named_reason reason).0 ++ ascii " " ∷ (named_reason reason).1) line.new }
 {
     add_number(line, u64::from(number_of(reason)));
     add_byte(line, b' ');
@@ -174,9 +173,9 @@ pub fn nothing_line(number: u32) -> Line
     line
 }
 
-#[tactic(auto, unfolding(crate::specs::Text::line_reason_number))]
+#[tactic(auto, unfolding(crate::specs::Text::named_line_reason))]
 fn line_number_of(reason: LineReason) -> u8
-    ensures { result ≡ line_reason_number reason }
+    ensures { result ≡ (named_line_reason reason).0 }
 {
     match reason {
         LineReason::UnknownWord => 1,
@@ -188,10 +187,10 @@ fn line_number_of(reason: LineReason) -> u8
     }
 }
 
-#[tactic(auto, unfolding(crate::specs::Text::line_reason_name))]
+#[tactic(auto, unfolding(crate::specs::Text::named_line_reason))]
 fn add_line_name(line: &mut Line, reason: LineReason)
     requires { HasRoomFor 11 line.old }
-    ensures { Adds line.old 11 (line_reason_name reason) line.new }
+    ensures { Adds line.old 11 (named_line_reason reason).1 line.new }
 {
     match reason {
         LineReason::UnknownWord => add_text(line, b"UnknownWord"),

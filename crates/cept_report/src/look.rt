@@ -1,10 +1,10 @@
-ghost use Rattle.std.specs.Prelude.{◌≡◌, ◌+◌, ◌≤◌, ◌<◌, ◌∷◌, [], ◌++◌, length};
+ghost use Rattle.std.specs.Prelude.{◌≡◌, ◌==◌, ◌+◌, ◌≤◌, ◌<◌, ◌∷◌, [], ◌++◌, length, if◌then◌else◌};
 ghost use Rattle.arrayvec.specs.ArrayVec.{array_vec_len};
 ghost use Rattle.cept_codes.specs.Look.{IsValidInks, IsValidLook, IsValidPattern, IsValidShape};
 ghost use Rattle.cept_report.specs.Ascii.{ascii};
 ghost use Rattle.cept_report.specs.Ending.{ending_text};
 ghost use Rattle.cept_report.specs.Room.{Adds, HasRoomFor};
-ghost use Rattle.cept_report.specs.Text.{set_letter, accent_text, sign_text, shape_text};
+ghost use Rattle.cept_report.specs.Text.{set_letter, hex_byte, sign_text, shape_text};
 ghost use Rattle.cept_report.specs.Text.{flash_letter, flag_letter, fields_text, look_text};
 ghost use Rattle.cept_report.specs.Text.{ink_texts, pattern_text};
 
@@ -28,7 +28,7 @@ pub fn letter_of_set(set: SetId) -> u8
 
 fn add_accent(line: &mut Line, accent: u8)
     requires { HasRoomFor 3 line.old }
-    ensures { Adds line.old 3 (accent_text accent) line.new }
+    ensures { Adds line.old 3 (if accent == 0 then [] else ascii "+" ∷ hex_byte accent) line.new }
 {
     if accent != 0 {
         add_byte(line, b'+');

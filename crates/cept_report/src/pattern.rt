@@ -1,9 +1,10 @@
-ghost use Rattle.std.specs.Prelude.{◌≡◌, ◌+◌, ◌*◌, ◌≤◌, ◌<◌, ◌∷◌, [], ◌++◌, length};
+ghost use Rattle.std.specs.Prelude.{◌≡◌, ◌+◌, ◌*◌, ◌≤◌, ◌<◌, ◌∷◌, [], ◌++◌, length, take};
+ghost use Rattle.std.specs.Int.{div_ceil};
 ghost use Rattle.std.specs.List.{flat_map};
 ghost use Rattle.arrayvec.specs.ArrayVec.{array_vec_len};
 ghost use Rattle.cept_codes.specs.Look.{IsValidInks, IsValidPattern};
 ghost use Rattle.cept_report.specs.Room.{Adds, HasRoomFor};
-ghost use Rattle.cept_report.specs.Text.{hex_word, ink_texts, pattern_text, pixel_words};
+ghost use Rattle.cept_report.specs.Text.{hex_word, ink_texts, pattern_text};
 
 use crate::line::{Line, add_byte, add_hex_word, add_small};
 use crate::paint::add_paints;
@@ -12,7 +13,8 @@ use cept_codes::{Inks, Pattern};
 /// The words that the pixels of a pattern need.
 fn pixel_words(pattern: &Pattern) -> &[u64]
     requires { IsValidPattern pattern.now }
-    ensures words { result.now ≡ pixel_words pattern.now }
+    ensures words { result.now
+        ≡ take (div_ceil (pattern.now.w * pattern.now.h * pattern.now.planes) 64) pattern.now.bits }
     ensures nine { length result.now ≤ 9 }
 {
     let pixels = usize::from(pattern.w) * usize::from(pattern.h) * usize::from(pattern.planes);

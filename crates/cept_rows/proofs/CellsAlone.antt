@@ -1,11 +1,11 @@
 -- What stands in a column by itself, kept there.
-use Rattle.std.proofs.Common.{◌≡◌, ℕ, false, Bool, List, refl, sym, ap, subst, ◌∙◌}
+use Rattle.std.proofs.Common.{◌≡◌, ℕ, false, Bool, None, List, refl, sym, ap, subst, ◌∙◌}
 use Rattle.cept_codes.specs.declared.cell.What.{What}
 use Rattle.cept_codes.specs.declared.look.Look.{Look}
 use Rattle.cept_codes.specs.declared.look.Shape.TheVariants as shapes
 use Rattle.cept_codes.specs.Attribute.{unset_pen}
 use Rattle.cept_codes.specs.Cell.{IsValidWhat}
-use Rattle.cept_profile.specs.Look.{look_of, shape_of}
+use Rattle.cept_profile.specs.Look.{look_of, shape_in}
 use Rattle.cept_profile.specs.PageParts.{paint_in}
 use Rattle.cept_profile.specs.Serial.{own_attributes_of, row_in}
 use Rattle.cept_profile.proofs.Laws.{IsValidLook-look_of}
@@ -24,7 +24,7 @@ use Rattle.cept_rows.proofs.WalkedRows.{space_with_sign}
 
 -- by the attributes of all that has no pen
 pub among_is : (source : Source) (c : ℕ) (w : What) (s : SmallLook) → w ≡ row_in source.cells c
-    → s ≡ small_shape source (shape_of source.defined w)
+    → s ≡ small_shape source (shape_in source.defined w None)
     (own_attributes_of w source.row_pen source.screen_pen (attributes_by source unset_pen))
     → s ≡ small_of (look_by_itself source c)
 among_is source c w s there e =
@@ -35,11 +35,11 @@ among_is source c w s there e =
 pub sign_is : (source : Source) (c : ℕ) (w : What) (space s : SmallLook) → w ≡ row_in source.cells c
     → space ≡ small_shape source shapes.Space
     (own_attributes_of w source.row_pen source.screen_pen (attributes_by source unset_pen))
-    → s ≡ record space { sign = sign_of (shape_of source.defined w) } → s ≡ small_of (look_by_itself source c)
+    → s ≡ record space { sign = sign_of (shape_in source.defined w None) } → s ≡ small_of (look_by_itself source c)
 sign_is source c w space s there e is =
-    among_is source c w s there (is ∙ space_with_sign (paint_in source.defined.paints) (shape_of source.defined w)
+    among_is source c w s there (is ∙ space_with_sign (paint_in source.defined.paints) (shape_in source.defined w None)
     (own_attributes_of w source.row_pen source.screen_pen (attributes_by source unset_pen)) space
-    (sign_of (shape_of source.defined w)) e refl)
+    (sign_of (shape_in source.defined w None)) e refl)
 
 -- without a pattern
 pub alone_plain : (source : Source) (c : ℕ) (w : What) (s : SmallLook) → IsValidSource source

@@ -1,18 +1,17 @@
 -- Rows by their columns, from 1: read, compared, and made one column after the other.
-use Rattle.std.proofs.Common.{◌≡◌, ℕ, ◌+◌, ◌-◌, ◌<◌, ◌≤◌, ◌==◌, false, cond, List, length, get_or, set}
+use Rattle.std.proofs.Common.{◌≡◌, ℕ, ◌+◌, ◌-◌, ◌<◌, ◌≤◌, List, length, get_or, set}
 use Rattle.std.proofs.Common.{inl, inr}
-use Rattle.std.proofs.Common.{refl, sym, ap, subst, ◌∙◌, arith, rules}
+use Rattle.std.proofs.Common.{refl, sym, ap, subst, ◌∙◌, arith}
 use Rattle.std.proofs.lemmas.Bool.{cases_eq, cases_lt}
 use Rattle.std.proofs.lemmas.List.{ext_get_or, get_or-set_other, get_or-set_same, get_or_past, length-set}
 use Rattle.std.proofs.lemmas.List.FromFn.{get_or-map-range_with_len, length-map-range_with_len}
 use Rattle.cept_codes.specs.Table.{row_of, HasMadeEntries}
-use Rattle.cept_codes.proofs.Laws.{HasMadeEntries-more, HasMadeEntries-all, row_of-list_by_index, same_indexed}
+use Rattle.cept_codes.proofs.Laws.{HasMadeEntries-more, HasMadeEntries-all, entry_from, row_of-list_by_index, same_indexed}
 use Rattle.cept_profile.specs.Tiling.{column_entry}
 
 -- a column stands at the index before
 pub column_entry-at : {X : Type 0} (d : X) (xs : List X) (c : ℕ) → 1 ≤ c → column_entry d xs c ≡ get_or xs (c - 1) d
-column_entry-at d xs c low =
-    let no : (c == 0) ≡ false = search rules in ap (λ b. cond b d (get_or xs (c - 1) d)) no
+column_entry-at d xs c low = entry_from d 1 xs c low
 
 -- past the last the default is read
 pub column_entry-past : {X : Type 0} (d : X) (xs : List X) (c : ℕ) → length xs ≡ 40 → 40 < c → column_entry d xs c ≡ d

@@ -1,11 +1,12 @@
 -- Looks of places, in little space: those of the places above and to the left, and those of what stands in a cell.
-use Rattle.std.proofs.Common.{◌≡◌, ℕ, ◌==◌, Bool, true, false, refl, sym, ap, ◌∙◌}
+use Rattle.std.proofs.Common.{◌≡◌, ℕ, ◌==◌, Bool, true, false, None, refl, sym, ap, ◌∙◌}
 use Rattle.cept_codes.specs.declared.look.Look.{Look}
 use Rattle.cept_codes.specs.declared.look.Part.{Part}
 use Rattle.cept_codes.specs.declared.attribute.Pen.{Pen}
 use Rattle.cept_codes.specs.declared.cell.What.{What}
 use Rattle.cept_profile.specs.Definitions.{Definitions}
-use Rattle.cept_profile.specs.Look.{look_in_row, look_with_part, part_of, shape_of}
+use Rattle.cept_profile.specs.Look.{look_in_row, part_of, shape_in}
+use Rattle.cept_profile.specs.RowsFromAbove.{look_with_part}
 use Rattle.cept_profile.specs.Tiling.{covers_right, origin_part}
 use Rattle.cept_rows.specs.declared.small_look.SmallLook.{SmallLook}
 use Rattle.cept_rows.specs.SmallLooks.{small_of}
@@ -39,7 +40,7 @@ origin_is o shown s p e is = with_part o s p p e refl ∙ ap small_of is
 -- the drawing of what stands in a cell, whichever part is shown
 pub drawing_is : (defined : Definitions) (row : ℕ → What) (pen screen : Pen) (c : ℕ) (p : Part) (shown : Look)
     → look_with_part p (look_in_row defined row pen screen c) ≡ shown
-    → drawing_of (shape_of defined (row c)) ≡ drawing_of shown.shape
+    → drawing_of (shape_in defined (row c) None) ≡ drawing_of shown.shape
 drawing_is defined row pen screen c p shown is =
     drawing_of-look_in_row defined row pen screen c ∙ ap (λ (l : Look). drawing_of l.shape) is
 

@@ -17,9 +17,10 @@ use Rattle.cept_profile.specs.Attributes.{cascade, first_value}
 use Rattle.cept_profile.specs.Influence.{Influence, influence, influence_after, influence_in}
 use Rattle.cept_profile.specs.Definitions.{Definitions}
 use Rattle.cept_profile.specs.PageParts.{paint_in}
-use Rattle.cept_profile.specs.Look.{attributes_of, is_double_set, look_in_row, look_of, sets_double_size, look_with, look_with_part}
+use Rattle.cept_profile.specs.Look.{attributes_of, is_double_set, look_in_row, look_of, sets_double_size, look_with}
+use Rattle.cept_profile.specs.RowsFromAbove.{look_with_part}
 use Rattle.cept_profile.specs.Look.{part_of}
-use Rattle.cept_profile.specs.Look.{shape_in, shape_of, size_in_row}
+use Rattle.cept_profile.specs.Look.{shape_in, size_in_row}
 use Rattle.cept_profile.specs.RowsFromAbove.{look_by, look_from}
 use Rattle.cept_profile.specs.Serial.{acts_there, held_sign, is_marker, own_attributes_of, row_in, serial_attributes}
 use Rattle.cept_profile.specs.Tiling.{column_entry, covers_below, covers_right, is_covered_from_left, is_high}
@@ -42,7 +43,7 @@ attributes_alone row pen screen (suc c) low plain =
 
 -- what is no marker is drawn as itself
 pub shape_alone : (defined : Definitions) (w : What) (held : Option _) → is_marker w ≡ false
-    → shape_in defined w held ≡ shape_of defined w
+    → shape_in defined w held ≡ shape_in defined w None
 shape_alone defined (whats.Marker m) held plain = cc
 shape_alone defined whats.Blank held plain = refl
 shape_alone defined (whats.Serial g) held plain = refl
@@ -63,17 +64,17 @@ own_alone row screen (whats.Marker m) = refl
 
 -- the look of what stands in a cell by itself
 pub look_of_itself : (defined : Definitions) (row screen : Pen) (w : What)
-    → look_with (paint_in defined.paints) (shape_of defined w)
+    → look_with (paint_in defined.paints) (shape_in defined w None)
     (own_attributes_of w row screen (cascade unset_pen row screen))
     ≡ look_of defined row screen w
 unfolding look_of
 look_of_itself defined row screen w =
-    ap (look_with (paint_in defined.paints) (shape_of defined w)) (own_alone row screen w)
+    ap (look_with (paint_in defined.paints) (shape_in defined w None)) (own_alone row screen w)
 
 -- the look of a cell of such a row
 pub look_alone : (defined : Definitions) (row : ℕ → What) (pen screen : Pen) (c : ℕ) → 1 ≤ c
     → ((d : ℕ) → 1 ≤ d → d ≤ c → is_marker (row d) ≡ false)
-    → look_with (paint_in defined.paints) (shape_of defined (row c))
+    → look_with (paint_in defined.paints) (shape_in defined (row c) None)
     (own_attributes_of (row c) pen screen (cascade unset_pen pen screen))
     ≡ look_in_row defined row pen screen c
 unfolding look_in_row

@@ -15,7 +15,8 @@ use Rattle.cept_codes.specs.Look.{IsValidLook, blank_look}
 use Rattle.cept_codes.specs.Table.{HasMadeEntries, entry, row_of}
 use Rattle.cept_codes.proofs.Laws.{entry_from}
 use Rattle.cept_profile.specs.Definitions.{Definitions}
-use Rattle.cept_profile.specs.Look.{look_in_row, look_with_part, part_of, size_in_row}
+use Rattle.cept_profile.specs.Look.{look_in_row, part_of, size_in_row}
+use Rattle.cept_profile.specs.RowsFromAbove.{look_with_part}
 use Rattle.cept_profile.specs.RowsFromAbove.{look_by, look_from, row_from_above}
 use Rattle.cept_profile.specs.Serial.{own_attributes, own_attributes_of, row_in, serial_attributes}
 use Rattle.cept_profile.specs.Tiling.{column_entry, covers_below, covers_right, is_covered_from_left, is_high, is_wide}

@@ -1,8 +1,8 @@
 -- Signs: those of the downloaded set are drawn by the pattern of their code, all others as themselves.
-use Rattle.std.proofs.Common.{◌≡◌, ℕ, ◌&&◌, ◌==◌, Bool, true, false, cond, Option, Some, None, IfSome}
-use Rattle.std.proofs.Common.{List, not, refl}
+use Rattle.std.proofs.Common.{◌≡◌, ℕ, zero, suc, ◌&&◌, ◌==◌, Bool, true, false, cond, Option, Some, None, IfSome}
+use Rattle.std.proofs.Common.{List, is_none, unwrap_or, refl}
 use Rattle.std.proofs.Common.{sym, ap, ◌∙◌, subst}
-use Rattle.std.specs.Prelude.{option_and_then}
+use Rattle.std.specs.Option.{option_or}
 use Rattle.std.proofs.lemmas.Bool.{cond_both}
 use Rattle.cept_codes.specs.declared.attribute.Full.{Full}
 use Rattle.cept_codes.specs.declared.attribute.Pen.{Pen}
@@ -17,11 +17,10 @@ use Rattle.cept_codes.specs.declared.look.Shape.TheVariants as shapes
 use Rattle.cept_codes.specs.Cell.{IsValidWhat}
 use Rattle.cept_profile.specs.Definitions.{Definitions}
 use Rattle.cept_profile.specs.Look.{look_in_row, look_of, look_with, shape_in}
-use Rattle.cept_profile.specs.Look.{shape_in_set, shape_of}
+use Rattle.cept_profile.specs.Look.{shape_in_set, shape_in}
 use Rattle.cept_profile.specs.Look.{shape_of_sign}
 use Rattle.cept_profile.specs.PageParts.{pattern_in}
-use Rattle.cept_profile.specs.Serial.{held_sign, is_holding, is_marker, is_mosaic, is_sized_since, kept_sign, mosaic_of}
-use Rattle.cept_profile.specs.Serial.{nearest_column}
+use Rattle.cept_profile.specs.Serial.{held_sign, is_holding, is_marker, is_mosaic, kept_sign, marker_pen, mosaic_of, nearest_said}
 use Rattle.cept_profile.specs.Valid.{AreValidDefinitions}
 use Rattle.cept_profile.proofs.Laws.{IsValidLook-look_of}
 use Rattle.cept_rows.specs.declared.drawing.Drawing.{Drawing}
@@ -69,16 +68,24 @@ mosaic_other (whats.Serial g) =
 mosaic_other (whats.Parallel g pen) = tt
 mosaic_other (whats.Marker m) = tt
 
-found_other : (f : ℕ → Option Glyph) (o : Option ℕ) → ((d : ℕ) → IsOther (f d)) → IsOther (option_and_then f o)
-found_other f None each = tt
-found_other f (Some d) each = each d
+either_other : (a b : Option (Option Glyph)) → IfSome a IsOther → IsOther (unwrap_or b None)
+    → IsOther (unwrap_or (option_or a b) None)
+either_other None b first second = second
+either_other (Some found) b first second = first
+
+nearest_other : (says : ℕ → Option (Option Glyph)) (c : ℕ) → ((d : ℕ) → IfSome (says d) IsOther)
+    → IsOther (unwrap_or (nearest_said says c) None)
+nearest_other says zero each = tt
+nearest_other says (suc c) each =
+    either_other (says (suc c)) (nearest_said says c) (each (suc c)) (nearest_other says c each)
 
 kept_other : (row : ℕ → What) (c : ℕ) → IsOther (kept_sign row c)
 unfolding kept_sign
 kept_other row c =
-    found_other (λ d. cond (is_sized_since row d c) None (mosaic_of (row d)))
-    (nearest_column (λ d. not (is_marker (row d))) c)
-    (λ d. cond_both (is_sized_since row d c) None (mosaic_of (row d)) IsOther (λ e. tt) (λ e. mosaic_other (row d)))
+    nearest_other
+    (λ d. cond (is_marker (row d) && is_none (marker_pen 0 (row d)).size) None (Some (mosaic_of (row d)))) c
+    (λ d. cond_both (is_marker (row d) && is_none (marker_pen 0 (row d)).size) None (Some (mosaic_of (row d)))
+    (λ o. IfSome o IsOther) (λ e. tt) (λ e. mosaic_other (row d)))
 
 held_other : (row : ℕ → What) (c : ℕ) → IfSome (held_sign row c) (λ g. is_set_d g.set ≡ false)
 held_other row c =
@@ -111,7 +118,7 @@ sign_is_plain defined g other =
     ∙ drcs_plain (g.code == 0x20 && g.accent == 0) g
 
 cell_is_plain : (defined : Definitions) (w : What) → is_downloaded w ≡ false
-    → is_drcs (sign_of (shape_of defined w)).kind ≡ false
+    → is_drcs (sign_of (shape_in defined w None)).kind ≡ false
 cell_is_plain defined whats.Blank other = refl
 cell_is_plain defined (whats.Serial g) other = sign_is_plain defined g other
 cell_is_plain defined (whats.Parallel g pen) other = sign_is_plain defined g other
@@ -119,7 +126,7 @@ cell_is_plain defined (whats.Marker m) other = refl
 
 -- and so is its small look
 pub look_is_plain : (s : SmallLook) (defined : Definitions) (paint_of : ℕ → Paint) (w : What) (full : Full)
-    → s ≡ small_of (look_with paint_of (shape_of defined w) full) → is_downloaded w ≡ false → has_pattern s ≡ false
+    → s ≡ small_of (look_with paint_of (shape_in defined w None) full) → is_downloaded w ≡ false → has_pattern s ≡ false
 look_is_plain s defined paint_of w full e other = ap has_pattern e ∙ cell_is_plain defined w other
 
 pub look_of_is_plain : (s : SmallLook) (defined : Definitions) (row screen : Pen) (w : What)
@@ -130,7 +137,7 @@ look_of_is_plain s defined row screen w e other = ap has_pattern e ∙ cell_is_p
 -- what a marker holds is drawn without one
 drawing_unheld : (defined : Definitions) (w : What) (held : Option Glyph)
     → IfSome held (λ g. is_set_d g.set ≡ false)
-    → drawing_of (shape_in defined w held) ≡ drawing_of (shape_of defined w)
+    → drawing_of (shape_in defined w held) ≡ drawing_of (shape_in defined w None)
 drawing_unheld defined (whats.Marker m) None other = refl
 drawing_unheld defined (whats.Marker m) (Some g) other =
     ap drawing_of (sign_plain defined g (no_pattern defined.patterns g other))
@@ -141,25 +148,25 @@ drawing_unheld defined (whats.Parallel g pen) held other = refl
 
 -- the drawings of looks
 drawing_of-look_of : (defined : Definitions) (row screen : Pen) (w : What)
-    → drawing_of (shape_of defined w) ≡ drawing_of (look_of defined row screen w).shape
+    → drawing_of (shape_in defined w None) ≡ drawing_of (look_of defined row screen w).shape
 unfolding look_of
 drawing_of-look_of defined row screen w = refl
 
 pub drawing_of-look_in_row : (defined : Definitions) (row : ℕ → What) (pen screen : Pen) (c : ℕ)
-    → drawing_of (shape_of defined (row c)) ≡ drawing_of (look_in_row defined row pen screen c).shape
+    → drawing_of (shape_in defined (row c) None) ≡ drawing_of (look_in_row defined row pen screen c).shape
 unfolding look_in_row
 drawing_of-look_in_row defined row pen screen c =
     sym (drawing_unheld defined (row c) (held_sign row c) (held_other row c))
 
 -- what stands in a cell by itself is kept
 pub any_kept : (s : SmallLook) (d : Drawing) (defined : Definitions) (row screen : Pen) (w : What)
-    → s ≡ small_of (look_of defined row screen w) → d ≡ drawing_of (shape_of defined w)
+    → s ≡ small_of (look_of defined row screen w) → d ≡ drawing_of (shape_in defined w None)
     → look_kept s d ≡ look_of defined row screen w
 any_kept s d defined row screen w e f =
     kept_is s d (look_of defined row screen w) e (f ∙ drawing_of-look_of defined row screen w)
 
 pub any_small : (s : SmallLook) (d : Drawing) (defined : Definitions) (row screen : Pen) (w : What)
-    → s ≡ small_of (look_of defined row screen w) → d ≡ drawing_of (shape_of defined w)
+    → s ≡ small_of (look_of defined row screen w) → d ≡ drawing_of (shape_in defined w None)
     → AreValidDefinitions defined → IsValidWhat w → IsSmallLook s d
 any_small s d defined row screen w e f are valid =
     small_is s d (look_of defined row screen w) e (f ∙ drawing_of-look_of defined row screen w)

@@ -1,5 +1,5 @@
 -- The look of a cell by what is carried along its row.
-use Rattle.std.proofs.Common.{◌≡◌, ℕ, false, Option, sym, ap, ◌∙◌}
+use Rattle.std.proofs.Common.{◌≡◌, ℕ, false, Option, None, sym, ap, ◌∙◌}
 use Rattle.cept_codes.specs.declared.attribute.Full.{Full}
 use Rattle.cept_codes.specs.declared.attribute.Pen.{Pen}
 use Rattle.cept_codes.specs.declared.attribute.Size.{Size}
@@ -8,7 +8,7 @@ use Rattle.cept_codes.specs.declared.cell.What.{What}
 use Rattle.cept_codes.specs.declared.cell.What.TheVariants as whats
 use Rattle.cept_codes.specs.declared.glyph.Glyph.{Glyph}
 use Rattle.cept_profile.specs.Definitions.{Definitions}
-use Rattle.cept_profile.specs.Look.{look_in_row, look_with, shape_in, shape_of, size_in_row}
+use Rattle.cept_profile.specs.Look.{look_in_row, look_with, shape_in, size_in_row}
 use Rattle.cept_profile.specs.PageParts.{paint_in}
 use Rattle.cept_profile.specs.Serial.{held_sign, is_marker, own_attributes_of, serial_attributes}
 use Rattle.cept_rows.specs.declared.small_look.SmallLook.{SmallLook}
@@ -22,7 +22,7 @@ use Rattle.cept_rows.proofs.RowsAlone.{shape_alone}
 -- what is no marker, by the attributes that are in force there
 unmarked_look : (defined : Definitions) (row : ℕ → What) (pen screen : Pen) (c : ℕ) (f : Full)
     → is_marker (row c) ≡ false → f ≡ serial_attributes row pen screen c
-    → look_with (paint_in defined.paints) (shape_of defined (row c)) (own_attributes_of (row c) pen screen f)
+    → look_with (paint_in defined.paints) (shape_in defined (row c) None) (own_attributes_of (row c) pen screen f)
     ≡ look_in_row defined row pen screen c
 unfolding look_in_row
 unmarked_look defined row pen screen c f plain e =
@@ -35,11 +35,11 @@ unmarked_look defined row pen screen c f plain e =
 pub look_of_cell : (defined : Definitions) (row : ℕ → What) (pen screen : Pen) (c : ℕ) (w : What) (f own : Full)
     (s : SmallLook) → row c ≡ w → is_marker w ≡ false → f ≡ serial_attributes row pen screen c
     → own ≡ own_attributes_of w pen screen f
-    → s ≡ small_of (look_with (paint_in defined.paints) (shape_of defined w) own)
+    → s ≡ small_of (look_with (paint_in defined.paints) (shape_in defined w None) own)
     → s ≡ small_of (look_in_row defined row pen screen c)
 look_of_cell defined row pen screen c w f own s there plain e is look =
-    look ∙ ap (λ g. small_of (look_with (paint_in defined.paints) (shape_of defined w) g)) is
-    ∙ ap (λ v. small_of (look_with (paint_in defined.paints) (shape_of defined v) (own_attributes_of v pen screen f)))
+    look ∙ ap (λ g. small_of (look_with (paint_in defined.paints) (shape_in defined w None) g)) is
+    ∙ ap (λ v. small_of (look_with (paint_in defined.paints) (shape_in defined v None) (own_attributes_of v pen screen f)))
     (sym there)
     ∙ ap small_of (unmarked_look defined row pen screen c f (ap is_marker there ∙ plain) e)
 

@@ -4,7 +4,7 @@ ghost use Rattle.cept_codes.specs.Cell.{IsValidWhat};
 ghost use Rattle.cept_codes.specs.Glyph.{IsValidGlyph};
 ghost use Rattle.cept_profile.specs.Definitions.{Definitions};
 ghost use Rattle.cept_profile.specs.Look.{attributes_of, sets_double_size};
-ghost use Rattle.cept_profile.specs.Look.{shape_in, shape_of, shape_of_sign};
+ghost use Rattle.cept_profile.specs.Look.{shape_in, shape_of_sign};
 ghost use Rattle.cept_profile.specs.Serial.{is_marker, own_attributes_of, row_in};
 ghost use Rattle.cept_codes.specs.declared.cell.Marker.{Marker};
 ghost use Rattle.cept_codes.specs.declared.cell.What.TheVariants.{Marker as stands};
@@ -24,7 +24,7 @@ use cept_colours::Colours;
 #[tactic(auto, unfolding(cept_profile::specs::Look::look_of))]
 #[inline(always)]
 pub(crate) fn small_alone(column: Column, sign: Sign, source: &RowSource) -> SmallLook
-    requires { sign ≡ sign_of (shape_of source.now.defined (row_in source.now.cells column)) }
+    requires { sign ≡ sign_of (shape_in source.now.defined (row_in source.now.cells column) None) }
     ensures { result ≡ small_of (look_by_itself source.now column) }
 {
     source.small_with(sign, &attributes_alone(column, source))
@@ -47,7 +47,7 @@ fn attributes_alone(column: Column, source: &RowSource) -> Full
 #[inline(always)]
 pub(crate) fn sign_alone(what: &What) -> Sign
     requires { is_downloaded what.now ≡ false }
-    ensures { (defined : Definitions) → result ≡ sign_of (shape_of defined what.now) }
+    ensures { (defined : Definitions) → result ≡ sign_of (shape_in defined what.now None) }
 {
     match what {
         What::Blank | What::Marker(_) => Sign::NOTHING,
@@ -217,7 +217,7 @@ pub(crate) fn small_among(
     requires blank { blank.now ≡ space_by source.now unset_pen }
     requires brush { IsBrush source.now brush.old }
     ensures look { result
-        ≡ small_shape source.now (shape_of source.now.defined what.now)
+        ≡ small_shape source.now (shape_in source.now.defined what.now None)
         (own_attributes_of what.now source.now.row_pen source.now.screen_pen
         (attributes_by source.now unset_pen)) }
     ensures brush { IsBrush source.now brush.new }
@@ -272,7 +272,7 @@ pub(crate) fn own_attributes(what: &What, full: &Full, row: &Pen, screen: &Pen) 
 /// The sign of what stands in a column by itself.
 #[inline(always)]
 pub(crate) fn sign_in(column: Column, source: &RowSource) -> Sign
-    ensures { result ≡ sign_of (shape_of source.now.defined (row_in source.now.cells column)) }
+    ensures { result ≡ sign_of (shape_in source.now.defined (row_in source.now.cells column) None) }
 {
     match source.what(column) {
         What::Blank | What::Marker(_) => Sign::NOTHING,

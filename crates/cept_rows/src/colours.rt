@@ -1,6 +1,6 @@
-ghost use Rattle.std.specs.Prelude.{◌≡◌};
+ghost use Rattle.std.specs.Prelude.{◌≡◌, if◌then◌else◌};
 ghost use Rattle.cept_codes.specs.Attribute.{IsValidFull};
-ghost use Rattle.cept_profile.specs.Colours.{back_paint, fore_paint, paint_over};
+ghost use Rattle.cept_profile.specs.Colours.{paint_over};
 ghost use Rattle.cept_profile.specs.PageParts.{paint_in};
 ghost use Rattle.cept_rows.specs.SmallLooks.{tint_of};
 
@@ -12,9 +12,10 @@ use cept_colours::Colours;
 #[inline(always)]
 pub(crate) fn fore_of(full: &Full, colours: &Colours) -> Tint
     requires { IsValidFull full.now }
-    ensures { result
-        ≡ tint_of (paint_over (fore_paint (paint_in colours.now.paints) full.now)
-        (back_paint (paint_in colours.now.paints) full.now)) }
+    ensures { let f = full.now in
+        result
+        ≡ tint_of (paint_over (paint_in colours.now.paints (if f.invert then f.back else f.fore))
+        (paint_in colours.now.paints (if f.invert then f.fore else f.back))) }
 {
     let fore = tint_of(colours.paint(if full.invert { full.back } else { full.fore }));
     if fore.video {
@@ -28,7 +29,8 @@ pub(crate) fn fore_of(full: &Full, colours: &Colours) -> Tint
 #[inline(always)]
 pub(crate) fn back_of(full: &Full, colours: &Colours) -> Tint
     requires { IsValidFull full.now }
-    ensures { result ≡ tint_of (back_paint (paint_in colours.now.paints) full.now) }
+    ensures { let f = full.now in
+        result ≡ tint_of (paint_in colours.now.paints (if f.invert then f.fore else f.back)) }
 {
     tint_of(colours.paint(if full.invert { full.fore } else { full.back }))
 }

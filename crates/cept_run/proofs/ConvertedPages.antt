@@ -4,13 +4,13 @@ use Rattle.std.proofs.Common.{Option, Some, None, Result, Ok, Err, refl, sym, �
 use Rattle.std.proofs.Common.{take-take, take-append-drop, length-append}
 use Rattle.std.proofs.lemmas.List.{take-append-le}
 use Rattle.std.proofs.lemmas.Option.{none-some, same_Some}
-use Rattle.cept_editor.specs.Events.{Event, paints}
+use Rattle.cept_editor.specs.Events.{Event, still_event, paints}
 use Rattle.cept_editor.specs.Made.{ArePainted, AreMade, AreCutOff}
 use Rattle.cept_editor.proofs.Laws.{report-one, ArePainted-still, AreMade-none, AreMade-end, AreCutOff-end}
 use Rattle.cept_outside.specs.Causes.{Rose, HasCause}
 use Rattle.cept_outside.specs.ShelfState.{ShelfState, Selects, IsSound}
 use Rattle.cept_outside.specs.SinkState.{SinkState, Gains, GainsPart}
-use Rattle.cept_outside.proofs.Laws.{HasPut-nothing, Gains-nil}
+use Rattle.cept_outside.proofs.Laws.{Gains-nil}
 use Rattle.cept_profile.specs.Changes.{grid_with_paints}
 use Rattle.cept_repaint.specs.GlassState.{GlassState}
 use Rattle.cept_seven.specs.Seven.{texts}
@@ -22,7 +22,7 @@ use Rattle.cept_run.specs.declared.run.Status.{Status}
 use Rattle.cept_run.specs.declared.run.Status.TheVariants as statuses
 use Rattle.cept_run.specs.declared.words.BytesAction.{BytesAction}
 use Rattle.cept_run.specs.declared.words.BytesAction.TheVariants as actions
-use Rattle.cept_run.specs.Course.{Course, File, Gives, SelectsNoOther, course_of, text_event}
+use Rattle.cept_run.specs.Course.{Course, File, Gives, SelectsNoOther, course_of}
 use Rattle.cept_run.specs.Outside.{Outside, outside_of, output, AreAllTaken, PutsWhole, PutsUnflushed}
 use Rattle.cept_run.specs.Page.{KeepsShelf}
 use Rattle.cept_run.specs.Words.{Bytes}
@@ -78,7 +78,7 @@ part_longer text others whole before after is part = record {
 
 module _ (before after : Outside) (text : List ℕ) (same : after.glass ≡ before.glass) where
   abbrev event : Event
-  event = text_event text
+  event = still_event [] text
 
   text_made : Gains before.sink text after.sink → AreMade (event ∷ []) (output before) (output after)
   text_made all = AreMade-end [] event (output before) (output before) (output after) (AreMade-none (output before))
@@ -106,12 +106,12 @@ module _ (action : BytesAction) (name : List ℕ) (before : Outside) where
       → Selects {X = X} before.shelf name (Err f) shelf → HasCause {X = X} before.shelf.faults shelf.faults (Err f)
       → RunsCourse course before (outside_of shelf before.sink before.glass) statuses.ReadFault
   converts_unselected shelf f selects cause = record {
-    ends = record {
-      read_fault = cause.failed;
-      unended = selects.ended;
-      which = inl (record {
-        name = name;
+    ends = (
+      cause.failed,
+      selects.ended,
+      inl (record {
         first = record {
+          name = name;
           named = refl;
           front = [];
           counted = sym selects.taken;
@@ -123,8 +123,8 @@ module _ (action : BytesAction) (name : List ℕ) (before : Outside) where
         readable = read_none action;
         few = omega (arith, selects.taken);
         early = λ none. (refl, refl);
-      });
-    };
+      }),
+    );
     shelf = record {
       missed = λ there scripts. selects.missed_stays there;
       selects = λ touched. inl (λ chosen is. inl (selects.failed.chosen chosen is));
@@ -135,7 +135,7 @@ module _ (action : BytesAction) (name : List ℕ) (before : Outside) where
     sink_stays = λ other. refl;
     script_first = tt;
     unpainted = λ idle. refl;
-    unflushed = λ early other. HasPut-nothing before.sink;
+    unflushed = λ done refusals other. ([], Gains-nil before.sink);
     room = refl;
     sink_faults = omega arith;
   }
@@ -188,8 +188,9 @@ module _ (action : BytesAction) (name : List ℕ) (before : Outside) where
     -- so are the first bytes of the page
     abbrev first_reported : (size : ℕ) (front : List ℕ) → length front ≡ size
         → ((page : List ℕ) → AreLeft mid page → front ≡ take size page) → PutsConverted action front before.sink after.sink
-        → ReportsFirst course name size before after
+        → ReportsFirst course size before after
     first_reported size front counted known puts = record {
+      name = name;
       named = refl;
       front = front;
       counted = counted;
@@ -221,11 +222,11 @@ module _ (action : BytesAction) (name : List ℕ) (before : Outside) where
     }
       where
         event_of : Event
-        event_of = text_event (converted action ends.bytes)
+        event_of = still_event [] (converted action ends.bytes)
 
     -- the sink failed: of the page that is told, or of the bytes that were taken
     cut_of : (page front rest : List ℕ) → front ++ rest ≡ page → ConvertsPart action front before.sink after.sink
-        → AreCutOff (text_event (converted action page) ∷ []) (output before) (output after)
+        → AreCutOff (still_event [] (converted action page) ∷ []) (output before) (output after)
     cut_of page front rest is ends =
         let more = converted_begins action front rest in
         text_cut before after (converted action page) same
@@ -246,7 +247,7 @@ module _ (action : BytesAction) (name : List ℕ) (before : Outside) where
           script = [];
           script_is = refl;
           cut = inl (cut_of page (take size page) (drop size page) (take-append-drop size page) cut);
-          front = λ blank. cut_front (text_event (converted action page) ∷ []) (output before) (output after)
+          front = λ blank. cut_front (still_event [] (converted action page) ∷ []) (output before) (output after)
               (cut_of page (take size page) (drop size page) (take-append-drop size page) cut);
           taken = λ other named. (
             selects_page other named,
@@ -266,7 +267,7 @@ module _ (action : BytesAction) (name : List ℕ) (before : Outside) where
           script_is = refl;
           cut = inl (cut_of ends.bytes (take size ends.bytes) (drop size ends.bytes)
               (take-append-drop size ends.bytes) ends.cut);
-          front = λ blank. cut_front (text_event (converted action ends.bytes) ∷ []) (output before) (output after)
+          front = λ blank. cut_front (still_event [] (converted action ends.bytes) ∷ []) (output before) (output after)
               (cut_of ends.bytes (take size ends.bytes) (drop size ends.bytes) (take-append-drop size ends.bytes) ends.cut);
           taken = λ other named. (
             selects_page other named,
@@ -280,8 +281,8 @@ module _ (action : BytesAction) (name : List ℕ) (before : Outside) where
         }
 
     by_put : (page : List ℕ) → PutsUnflushed (converted action page) before.sink after.sink
-        → AreCutOff (text_event (converted action page) ∷ []) (output before) (output after)
-        ⊎ (AreMade (text_event (converted action page) ∷ []) (output before) (output after)
+        → AreCutOff (still_event [] (converted action page) ∷ []) (output before) (output after)
+        ⊎ (AreMade (still_event [] (converted action page) ∷ []) (output before) (output after)
         × (before.sink.always_flushes ≡ false))
     by_put page puts =
         elim puts.put [
@@ -322,11 +323,10 @@ module _ (action : BytesAction) (name : List ℕ) (before : Outside) where
         let no = ends.1 in
         cc
     runs_converted (Err stops.ReadFault) ends =
-        runs_put statuses.ReadFault ends.bytes ends.puts (λ other. absurd (other refl)) (record {
-          read_fault = subst (λ n. Rose n after.shelf.faults) selected ends.takes.cause;
-          unended = ends.takes.unended;
-          which = inl (record {
-            name = name;
+        runs_put statuses.ReadFault ends.bytes ends.puts (λ other. absurd (other refl)) (
+          subst (λ n. Rose n after.shelf.faults) selected ends.takes.cause,
+          ends.takes.unended,
+          inl (record {
             first = first_reported after.shelf.taken ends.bytes (sym ends.taken) ends.known ends.puts;
             readable = ends.read;
             few = ends.takes.few;
@@ -335,31 +335,30 @@ module _ (action : BytesAction) (name : List ℕ) (before : Outside) where
                   ends.puts.put ends.puts.stays,
               same,
             );
-          });
-        })
+          }),
+        )
     runs_converted (Err stops.WriteFault) (inl ends) =
-        runs_course statuses.WriteFault (record { write_fault = ends.cut.cause; cut = inl (cut_by mid.left refl ends) })
+        runs_course statuses.WriteFault (ends.cut.cause, inl (cut_by mid.left refl ends))
         (λ other. ends.takes.stays) (λ other. absurd (other refl))
         (inl (record { part = take ends.cut.put.size _; gains = ends.cut.put.gains })) ends.cut.later
     runs_converted (Err stops.WriteFault) (inr ends) =
-        runs_course statuses.WriteFault (record {
-          write_fault = ends.cut.cause;
-          cut = inl (record {
+        runs_course statuses.WriteFault (
+          ends.cut.cause,
+          inl (record {
             page = ends.bytes;
             page_is = λ given gives. ends.takes.known given (left_of_given given gives);
             script = [];
             script_is = refl;
-            cut = either_with (text_event (converted action ends.bytes) ∷ []) (output before) (output after)
+            cut = either_with (still_event [] (converted action ends.bytes) ∷ []) (output before) (output after)
                 ends.read ends.can_end (by_put ends.bytes ends.cut);
-            front = λ blank. either_front (text_event (converted action ends.bytes) ∷ []) (output before) (output after)
+            front = λ blank. either_front (still_event [] (converted action ends.bytes) ∷ []) (output before) (output after)
                 (by_put ends.bytes ends.cut);
             taken = λ other named. (selects_page other named, inl (ends.takes.taken, ends.takes.few));
-          });
-        }) (λ other. ends.takes.stays) (λ other. absurd (other refl))
+          }),
+        ) (λ other. ends.takes.stays) (λ other. absurd (other refl))
         (inl (put_either (converted action ends.bytes) before.sink after.sink ends.cut.put)) ends.cut.later
     runs_converted (Err stops.TooLong) ends =
         runs_put statuses.TooLong ends.bytes ends.puts (λ other. ends.takes.stays) (inl (record {
-          name = name;
           too_long = ends.takes.cause;
           selected = named_so_long after.shelf sound_after (omega (arith, ends.takes.cause));
           longer = λ page given. ends.takes.longer page (left_of_given page given);
@@ -368,7 +367,6 @@ module _ (action : BytesAction) (name : List ℕ) (before : Outside) where
         }))
     runs_converted (Err stops.NotSeven) ends =
         runs_put statuses.NotSeven ends.bytes ends.puts (λ other. ends.stays) (record {
-          name = name;
           first = first_reported (min after.shelf.taken (2 ^ 24)) ends.bytes ends.count ends.known ends.puts;
           cause = cause_by ends;
           unreadable = λ page given. unreadable_by ends page (left_of_given page given);

@@ -5,19 +5,30 @@ use Rattle.std.proofs.lemmas.List.{map-append, take_all}
 use Rattle.std.proofs.Math.Seq.{take-append_seam}
 use Rattle.std.proofs.lemmas.Grind.{flat_map-append}
 use Rattle.std.specs.List.{enumerate_from, flat_map}
+use Rattle.std.specs.Prelude.{if◌then◌else◌}
 use Rattle.cept_codes.specs.declared.command.Command.{Command}
 use Rattle.cept_codes.specs.declared.item.Item.{Item}
-use Rattle.cept_editor.specs.Events.{Event}
+use Rattle.cept_editor.specs.Events.{Event, still_event}
 use Rattle.cept_editor.specs.Kept.{KeptEdits, none_kept, kept, finds_nothing, kept_after, kept_after_undo_redo, remaining}
 use Rattle.cept_editor.specs.Kept.{commands_of_edits}
 use Rattle.cept_editor.specs.Meaning.{Step, UndoRedo, Edit}
 use Rattle.cept_editor.specs.Script.{EditLine}
-use Rattle.cept_editor.specs.Stepping.{event_from, nothing_event, edit_events, line_events}
+use Rattle.cept_editor.specs.Stepping.{event_from, edit_events, line_events}
 use Rattle.cept_editor.proofs.Laws.{kept-none, kept-more, remaining-none}
+use Rattle.cept_report.specs.Text.{nothing_line}
 use Rattle.cept_run.specs.declared.words.ReportOptions.{ReportOptions}
-use Rattle.cept_run.specs.Events.{history, item_events, events_of_line, kept_of, script_events, edited_events}
+use Rattle.cept_run.specs.Events.{history, item_events, kept_of, script_events}
 use Rattle.cept_run.specs.Events.{Sequel, NoSequel, Edits, Figures, drawing_commands, sequel_events, remaining_after}
+use Rattle.cept_run.specs.Reporting.{edited_events}
 use Rattle.cept_run.proofs.PaintedItems.{AreChained, chained-append, item_events-chained}
+
+-- an undo or a redo that finds nothing
+abbrev pub nothing_event : Bool → ℕ → List Command → Event
+nothing_event listed line commands = still_event commands (if listed then nothing_line line else [])
+
+-- the events of an edit line that comes after these, after a page's commands
+abbrev pub events_of_line : Bool → List Command → List EditLine → EditLine → List Event
+events_of_line listed page earlier line = line_events listed line.line page (kept_of earlier) line.step
 
 -- ---- kept edits
 

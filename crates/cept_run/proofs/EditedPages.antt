@@ -15,9 +15,9 @@ use Rattle.cept_profile.specs.State.{State, state}
 use Rattle.cept_profile.specs.Valid.{AllValid}
 use Rattle.cept_run.specs.declared.target.Target.TheVariants as targets
 use Rattle.cept_repaint.specs.GlassState.{GlassState}
-use Rattle.cept_run.specs.Events.{history, item_events, script_events, edited_events}
+use Rattle.cept_run.specs.Events.{history, item_events, script_events}
 use Rattle.cept_run.specs.Events.{Sequel, NoSequel, Edits, Figures, sequel_events, remaining_after}
-use Rattle.cept_run.specs.Reporting.{Plan, sequel_of, ReporterState, painted_target, target_at, screen_of}
+use Rattle.cept_run.specs.Reporting.{Plan, edited_events, sequel_of, ReporterState, painted_target, target_at, screen_of}
 use Rattle.cept_run.specs.Reporting.{HasReported, HasMadeLines, MakesLines, remaining_at_end, HasEdited, EditsOn, HasDrawn, Draws}
 use Rattle.cept_run.specs.Words.{is_painted}
 use Rattle.cept_run.proofs.EditedLines.{edited_events-none}

@@ -9,8 +9,12 @@ use Rattle.cept_parser.specs.Items.{closed_items}
 use Rattle.cept_profile.specs.State.{State, state}
 use Rattle.cept_run.specs.declared.words.ReportOptions.{ReportOptions}
 use Rattle.cept_run.specs.declared.words.End.{End}
-use Rattle.cept_run.specs.Events.{counts_text, painted_end, text_at_end, refused_count}
+use Rattle.cept_run.specs.declared.words.End.TheVariants as ends
+use Rattle.cept_run.specs.declared.words.Way.{Way}
+use Rattle.cept_run.specs.declared.words.Way.TheVariants as ways
+use Rattle.cept_run.specs.Events.{end_text, refused_count}
 use Rattle.cept_run.specs.Reporting.{Plan, ReporterState, StandsAtEnd, remaining_at_end, screen_of}
+use Rattle.cept_run.specs.inside.Reporting.{counts_text, painted_end, text_at_end}
 use Rattle.cept_run.specs.Words.{is_painted}
 
 -- the end that is asked for is this one
@@ -20,6 +24,34 @@ pub end_as : {X E : Type 0} (one other : End) (options : ReportOptions) (shown :
     → PutsText s (painted_end other options shown page commands) result t
 end_as one other options shown page commands s t result is puts =
     subst (λ (e : End). PutsText s (painted_end e options shown page commands) result t) is puts
+
+-- the text at the end of a page that was painted, and of one that wasn't
+painted_by : (way : Way) (end : End) (options : ReportOptions) (shown : List (List Look)) (page : List ℕ)
+    (commands : List Command) → is_painted way ≡ true
+    → painted_end end options shown page commands ≡ end_text way end options shown page commands
+painted_by ways.Count end options shown page commands is = cc
+painted_by ways.List end options shown page commands is = cc
+painted_by ways.Paint ends.Nothing options shown page commands is = refl
+painted_by ways.Paint ends.Screen options shown page commands is = refl
+painted_by ways.Paint ends.Cells options shown page commands is = refl
+painted_by ways.Paint ends.Page options shown page commands is = refl
+painted_by ways.Paint ends.Counts options shown page commands is = refl
+painted_by ways.Paint (ends.Phases turns) options shown page commands is = refl
+painted_by ways.PaintAndList ends.Nothing options shown page commands is = refl
+painted_by ways.PaintAndList ends.Screen options shown page commands is = refl
+painted_by ways.PaintAndList ends.Cells options shown page commands is = refl
+painted_by ways.PaintAndList ends.Page options shown page commands is = refl
+painted_by ways.PaintAndList ends.Counts options shown page commands is = refl
+painted_by ways.PaintAndList (ends.Phases turns) options shown page commands is = refl
+
+counted_by : (way : Way) (end : End) (options : ReportOptions) (shown : List (List Look)) (page : List ℕ)
+    (commands : List Command) → is_painted way ≡ false
+    → counts_text way (length (closed_items page)) (refused_count (closed_items page))
+    ≡ end_text way end options shown page commands
+counted_by ways.Count end options shown page commands is = refl
+counted_by ways.List end options shown page commands is = refl
+counted_by ways.Paint end options shown page commands is = cc
+counted_by ways.PaintAndList end options shown page commands is = cc
 
 module _ (plan : Plan) (reporter : ReporterState) (page : List ℕ)
     (stands : StandsAtEnd plan reporter (closed_items page)) where
@@ -48,16 +80,16 @@ module _ (plan : Plan) (reporter : ReporterState) (page : List ℕ)
       → is_painted plan.options.way ≡ true → PutsText s (painted_end plan.options.end plan.options shown page all) result t
       → PutsText s (text_at_end plan.options shown page all) result t
   painted_text shown s t result is puts =
-      subst (λ b. PutsText s (cond b (painted_end plan.options.end plan.options shown page all)
-      (counts_text plan.options.way (length (closed_items page)) (refused_count (closed_items page)))) result t) (sym is) puts
+      subst (λ (text : List ℕ). PutsText s text result t)
+      (painted_by plan.options.way plan.options.end plan.options shown page all is) puts
 
   pub counted_text : {X E : Type 0} (shown : List (List Look)) (s t : SinkState) (result : Result X E)
       → is_painted plan.options.way ≡ false
       → PutsText s (counts_text reporter.options.way reporter.items reporter.refused) result t
       → PutsText s (text_at_end plan.options shown page all) result t
   counted_text shown s t result is puts =
-      subst (λ b. PutsText s (cond b (painted_end plan.options.end plan.options shown page all)
-      (counts_text plan.options.way (length (closed_items page)) (refused_count (closed_items page)))) result t) (sym is)
+      subst (λ (text : List ℕ). PutsText s text result t)
+      (counted_by plan.options.way plan.options.end plan.options shown page all is)
       (subst (λ (a : ReportOptions). PutsText s (counts_text a.way (length (closed_items page)) (refused_count (closed_items page)))
       result t) stands.options_are
       (subst (λ n. PutsText s (counts_text reporter.options.way n (refused_count (closed_items page))) result t) stands.items

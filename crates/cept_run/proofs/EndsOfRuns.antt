@@ -1,7 +1,7 @@
 -- How a run ends by its page.
 use Rattle.std.proofs.Common.{◌≡◌, ◌≢◌, ◌⊎◌, inl, inr, ℕ, ◌^◌, ◌<◌, ◌≤◌, Bool, true, false, cond, List, [], ◌∷◌, ◌++◌, take}
 use Rattle.std.proofs.Common.{Option, Some, None, IsSome, Result, Ok, Err, refl, sym, ◌∙◌, ap, subst, arith}
-use Rattle.std.proofs.Common.{append_assoc, append-nil, min, take-take, length}
+use Rattle.std.proofs.Common.{append_assoc, append-nil, min, nat_lt, take-take, length}
 use Rattle.std.proofs.lemmas.Option.{none-some, same_Some}
 use Rattle.cept_codes.specs.declared.command.Command.{Command}
 use Rattle.cept_codes.specs.declared.item.Item.{Item}
@@ -11,7 +11,7 @@ use Rattle.cept_editor.proofs.Laws.{AreCutOff-longer, cut_untouched}
 use Rattle.cept_outside.specs.Causes.{Rose, HasCause}
 use Rattle.cept_outside.specs.ShelfState.{ShelfState, Selects, IsSound}
 use Rattle.cept_outside.specs.SinkState.{SinkState}
-use Rattle.cept_outside.proofs.Laws.{HasPut-nothing}
+use Rattle.cept_outside.proofs.Laws.{Gains-nil}
 use Rattle.cept_parser.specs.Items.{items, closed_items}
 use Rattle.cept_codes.specs.declared.look.Look.{Look}
 use Rattle.cept_profile.specs.Look.{grid}
@@ -24,14 +24,15 @@ use Rattle.cept_run.specs.declared.run.Status.TheVariants as statuses
 use Rattle.cept_run.specs.declared.words.ReportOptions.{ReportOptions}
 use Rattle.cept_run.specs.Course.{Course, Source, File, Gives, HasBytes, SelectsNoOther, first_fault_in, sequel_in, report_course}
 use Rattle.cept_run.specs.Course.{ScriptSource, NoScript, ScriptFile, IsReadFirst}
-use Rattle.cept_run.specs.Events.{history, item_events, text_at_end, edited_events, sequel_events, Sequel, NoSequel}
-use Rattle.cept_run.specs.Events.{remaining_after, has_refusal}
+use Rattle.cept_run.specs.Events.{history, item_events, sequel_events, Sequel, NoSequel}
+use Rattle.cept_run.specs.Events.{remaining_after, refused_count}
 use Rattle.cept_run.specs.Outside.{Outside, outside_of, output, PutsWhole, PutsFront}
 use Rattle.cept_run.specs.Page.{PageUnput, PageStops, PutsEnd, KeepsShelf}
-use Rattle.cept_run.specs.Reporting.{Plan, sequel_of, remaining_at_end}
+use Rattle.cept_run.specs.Reporting.{Plan, sequel_of, edited_events, remaining_at_end}
 use Rattle.cept_run.specs.Run.{Restores, EndsWhole, IsReportCut, Ends, ReportsFirst, IsScriptFirst}
 use Rattle.cept_run.specs.Run.{RunsCourse, status_of, status_at_end}
 use Rattle.cept_run.specs.Taking.{AreLeft, TakesWhole}
+use Rattle.cept_run.specs.inside.Reporting.{text_at_end}
 use Rattle.cept_run.specs.inside.ScriptReading.{ScriptKnown}
 use Rattle.cept_run.specs.Words.{is_painted}
 use Rattle.cept_run.proofs.EditedLines.{edited_events-none}
@@ -78,12 +79,12 @@ module _ (plan : Plan) (name : List ℕ) (script : ScriptSource) (told : List �
       → Selects {X = X} ready name (Err f) shelf → HasCause {X = X} ready.faults shelf.faults (Err f)
       → RunsCourse course before (outside_of shelf before.sink before.glass) statuses.ReadFault
   ends_unselected shelf f selects cause = record {
-    ends = record {
-      read_fault = subst (λ n. Rose n shelf.faults) known.stays cause.failed;
-      unended = selects.ended;
-      which = inl (record {
-        name = name;
+    ends = (
+      subst (λ n. Rose n shelf.faults) known.stays cause.failed,
+      selects.ended,
+      inl (record {
         first = record {
+          name = name;
           named = refl;
           front = [];
           counted = sym selects.taken;
@@ -94,8 +95,8 @@ module _ (plan : Plan) (name : List ℕ) (script : ScriptSource) (told : List �
         readable = refl;
         few = omega (arith, selects.taken);
         early = λ none. (refl, refl);
-      });
-    };
+      }),
+    );
     shelf = record {
       missed = λ there scripts. selects.missed_stays (subst IsSome (sym (under_same before.shelf ready name
           known.files)) there) ∙ known.missed scripts;
@@ -108,7 +109,7 @@ module _ (plan : Plan) (name : List ℕ) (script : ScriptSource) (told : List �
     script_first = first_by (File name) script told before (outside_of shelf before.sink before.glass) statuses.ReadFault
         known.is;
     unpainted = λ idle. refl;
-    unflushed = λ early other. HasPut-nothing before.sink;
+    unflushed = λ done refusals other. ([], Gains-nil before.sink);
     room = refl;
     sink_faults = omega arith;
   }
@@ -171,8 +172,9 @@ module _ (plan : Plan) (name : List ℕ) (script : ScriptSource) (told : List �
     abbrev first_reported : (size : ℕ) (front : List ℕ) → length front ≡ size
         → ((page : List ℕ) → AreLeft mid page → front ≡ take size page)
         → AreMade (item_events options (items front)) (output before) (output after)
-        → ReportsFirst course name size before after
+        → ReportsFirst course size before after
     first_reported size front counted are made = record {
+      name = name;
       named = refl;
       front = front;
       counted = counted;
@@ -211,7 +213,7 @@ module _ (plan : Plan) (name : List ℕ) (script : ScriptSource) (told : List �
         → after.shelf.faults ≡ mid.faults → IsReportCut course before after
         → RunsCourse course before after statuses.WriteFault
     runs_cut reached off stays cut = runs_course statuses.WriteFault
-        (record { write_fault = off.cause; cut = inl cut }) (λ other. stays) (λ other. absurd (other refl))
+        (off.cause, inl cut) (λ other. stays) (λ other. absurd (other refl))
         (λ idle. cut_untouched (item_events options reached) (output before) (output after) (still_idle options reached idle) off)
         (inl (put_cut (item_events options reached) (output before) (output after) off)) off.later
 
@@ -280,18 +282,17 @@ module _ (plan : Plan) (name : List ℕ) (script : ScriptSource) (told : List �
         → PageStops plan (outside_of mid before.sink before.glass) stop after
         → RunsCourse course before after (status_of stop)
     ends_stopped stops.ReadFault sound_after ends = runs_made statuses.ReadFault ends.bytes ends.made ends.stays
-        (λ other. absurd (other refl)) (record {
-          read_fault = subst (λ n. Rose n after.shelf.faults) same_faults ends.takes.cause;
-          unended = ends.takes.unended;
-          which = inl (record {
-            name = name;
+        (λ other. absurd (other refl)) (
+          subst (λ n. Rose n after.shelf.faults) same_faults ends.takes.cause,
+          ends.takes.unended,
+          inl (record {
             first = first_reported after.shelf.taken ends.bytes (sym ends.taken) ends.known ends.made;
             readable = refl;
             few = ends.takes.few;
             early = λ none. made_nothing options ends.bytes before after
                 (nil_from_length ends.bytes (sym ends.taken ∙ (sound_after.nothing none).1)) ends.made ends.stays;
-          });
-        })
+          }),
+        )
     ends_stopped stops.WriteFault sound_after (inl ends) =
         runs_cut ends.front ends.cut ends.takes.stays (front_cut mid.left refl ends)
     ends_stopped stops.WriteFault sound_after (inr ends) = runs_cut (closed_items ends.bytes) ends.cut ends.takes.stays
@@ -302,7 +303,6 @@ module _ (plan : Plan) (name : List ℕ) (script : ScriptSource) (told : List �
         ends.cut))
     ends_stopped stops.TooLong sound_after ends = runs_made statuses.TooLong ends.bytes ends.made ends.stays
         (λ other. ends.takes.stays) (inl (record {
-          name = name;
           too_long = ends.takes.cause;
           selected = named_so_long after.shelf sound_after (omega (arith, ends.takes.cause));
           longer = λ page given. ends.takes.longer page (left_of_given page given);
@@ -341,15 +341,15 @@ module _ (plan : Plan) (name : List ℕ) (script : ScriptSource) (told : List �
           let off = subst (λ (s : Sequel). AreCutOff (edited_events options (closed_items bytes) s) (output before)
           (output after)) lines_are cut in
           subst (λ (s : Stop). RunsCourse course before after (status_of s)) (sym is)
-          (runs_course statuses.WriteFault (record {
-            write_fault = off.cause;
-            cut = inl (whole_cut bytes takes (inl (AreCutOff-longer (edited options script bytes told)
+          (runs_course statuses.WriteFault (
+            off.cause,
+            inl (whole_cut bytes takes (inl (AreCutOff-longer (edited options script bytes told)
                 (the_end options script bytes told after.glass.grid ∷ []) shown_run (output before) (output after) refl off))
                 (λ blank. cut_front (meant_run bytes) (output before) (output after)
                 (AreCutOff-longer (edited options script bytes told)
                 (the_end options script bytes told (grid (all options script bytes told)) ∷ []) (meant_run bytes)
-                (output before) (output after) refl off)));
-          }) (λ other. takes.stays) (λ other. absurd (other refl)) (λ idle. cut_untouched (edited options script bytes told) (output before) (output after) (still_edited idle) off)
+                (output before) (output after) refl off))),
+          ) (λ other. takes.stays) (λ other. absurd (other refl)) (λ idle. cut_untouched (edited options script bytes told) (output before) (output after) (still_edited idle) off)
           (inl (put_cut (edited options script bytes told) (output before) (output after) off)) off.later)
 
       module _ (sink : SinkState)
@@ -370,7 +370,7 @@ module _ (plan : Plan) (name : List ℕ) (script : ScriptSource) (told : List �
         idle_run : is_painted options.way ≡ false → after.glass ≡ before.glass
         idle_run idle = made.painted.untouched (still_edited idle)
 
-        whole_end : (refused : Bool) → refused ≡ has_refusal (closed_items bytes) → PutsWhole end_put sink after.sink
+        whole_end : (refused : Bool) → refused ≡ nat_lt 0 (refused_count (closed_items bytes)) → PutsWhole end_put sink after.sink
             → EndsWhole course before after refused
         whole_end refused is puts = record {
           page = bytes;
@@ -386,7 +386,7 @@ module _ (plan : Plan) (name : List ℕ) (script : ScriptSource) (told : List �
           taken = λ other named. (takes.taken, selects_page other named);
         }
 
-        by_end : (result : Result Bool Stop) → PutsEnd end_put (has_refusal (closed_items bytes)) sink result after.sink
+        by_end : (result : Result Bool Stop) → PutsEnd end_put (nat_lt 0 (refused_count (closed_items bytes))) sink result after.sink
             → RunsCourse course before after (status_at_end result)
         by_end (Ok false) puts = runs_course statuses.Done (whole_end false puts.1 puts.0) (λ other. takes.stays)
             (λ other. puts.0.stays ∙ sink_stays) idle_run (inr (refl, puts.0.room ∙ made.put.room)) (omega (arith, puts.0.stays, sink_stays))
@@ -394,17 +394,17 @@ module _ (plan : Plan) (name : List ℕ) (script : ScriptSource) (told : List �
             (λ other. puts.0.stays ∙ sink_stays) idle_run (inr (refl, puts.0.room ∙ made.put.room)) (omega (arith, puts.0.stays, sink_stays))
         by_end (Err stop) puts =
             subst (λ (s : Stop). RunsCourse course before after (status_of s)) (sym puts.1)
-            (runs_course statuses.WriteFault (record {
-              write_fault = subst (λ n. Rose n after.sink.faults) sink_stays puts.0.cause;
-              cut = inl (whole_cut bytes takes (cut_at_end options script bytes told before after sink made sink_stays puts.0)
-                  (front_at_end options script bytes told before after sink made sink_stays puts.0));
-            }) (λ other. takes.stays) (λ other. absurd (other refl)) idle_run
+            (runs_course statuses.WriteFault (
+              subst (λ n. Rose n after.sink.faults) sink_stays puts.0.cause,
+              inl (whole_cut bytes takes (cut_at_end options script bytes told before after sink made sink_stays puts.0)
+                  (front_at_end options script bytes told before after sink made sink_stays puts.0)),
+            ) (λ other. takes.stays) (λ other. absurd (other refl)) idle_run
             (inl (put_to_end options script bytes told before after sink made sink_stays puts.0))
             (omega (arith, puts.0.later, sink_stays)))
 
         pub ends_put : (result : Result Bool Stop)
             → PutsEnd (text_at_end options after.glass.grid bytes (remaining_at_end plan (closed_items bytes)))
-            (has_refusal (closed_items bytes)) sink result after.sink → RunsCourse course before after (status_at_end result)
+            (nat_lt 0 (refused_count (closed_items bytes))) sink result after.sink → RunsCourse course before after (status_at_end result)
         ends_put result puts = by_end result
             (subst (λ (h : List Command). PutsEnd (text_at_end options after.glass.grid bytes h)
-            (has_refusal (closed_items bytes)) sink result after.sink) all_is puts)
+            (nat_lt 0 (refused_count (closed_items bytes))) sink result after.sink) all_is puts)

@@ -9,7 +9,7 @@ use Rattle.cept_run.specs.declared.words.NumberAction.TheVariants as numbers
 use Rattle.cept_run.specs.Course.{Course, Source, File, Grammar, Scripts, Drawings, ScriptSource, NoScript, ScriptFile}
 use Rattle.cept_run.specs.Course.{SelectsNoOther, course_of}
 use Rattle.cept_run.specs.Outside.{Outside, output}
-use Rattle.cept_run.specs.Run.{EndsAtReadFault, EndsAtScript, IsAtScript, IsPageTooLong, ReportsFirst, ReportsFront, Runs}
+use Rattle.cept_run.specs.Run.{Ends, EndsAtScript, IsAtScript, IsPageTooLong, ReportsFirst, ReportsFront, Runs}
 use Rattle.cept_run.specs.Run.{RunsCourse}
 use Rattle.cept_run.specs.Words.{Request, Page, Bytes, Script, Number, Flash, Drawing, request_of, options_of_script, painting_options}
 use Rattle.cept_run.proofs.PagesInPieces.{nil_from_length}
@@ -59,16 +59,16 @@ module _ (course : Course) (name page : List ℕ) (before after : Outside) (page
         let page_is = stands.at.page_unselected in
         page_is.2 (is ∙ ap (λ n. Some (Some n)) (name_in name page_is.0 (sym paged ∙ page_is.1)))
 
-    unread_front : EndsAtReadFault course before after → ReportsFront course (take after.shelf.taken page) before after
+    unread_front : Ends course before after statuses.ReadFault → ReportsFront course (take after.shelf.taken page) before after
     unread_front ends =
-        elim ends.which [
-          | inl unread ↦ first_of course name page before after paged holds unread.name after.shelf.taken unread.first
+        elim ends.2 [
+          | inl unread ↦ first_of course name page before after paged holds after.shelf.taken unread.first
           | inr script ↦ absurd (not_at (unread_at course.script course.page before after script))
         ]
 
     long_front : IsPageTooLong course before after ⊎ EndsAtScript course.script course.page before after statuses.TooLong
         → ReportsFront course (take (2 ^ 24) page) before after
-    long_front (inl ends) = first_of course name page before after paged holds ends.name (2 ^ 24) ends.first
+    long_front (inl ends) = first_of course name page before after paged holds (2 ^ 24) ends.first
     long_front (inr ends) =
         absurd (not_at (too_long_at course.script course.page before after ends))
 
@@ -86,17 +86,18 @@ module _ (course : Course) (name page : List ℕ) (before after : Outside) (page
         by_name (inl none) = none
         by_name (inr is) = absurd (other is)
 
-    no_front : (own : List ℕ) → IsSound after.shelf → ReportsFirst course own after.shelf.taken before after
+    no_front : IsSound after.shelf → ReportsFirst course after.shelf.taken before after
         → ReportsFront course [] before after
-    no_front own sound_after first =
-        let none = nothing_selected own (name_in own name (sym first.named ∙ paged)) first.selected in
+    no_front sound_after first =
+        let none = nothing_selected first.name (name_in first.name name (sym first.named ∙ paged)) first.selected in
         subst (λ (b : List ℕ). ReportsFront course b before after)
         (nil_from_length first.front (first.counted ∙ (sound_after.nothing none).1)) first.reports
 
     -- a page that is too long is selected
     not_page : IsPageTooLong course before after → ⊥
     not_page ends =
-        ends.selected (nothing_selected ends.name (name_in ends.name name (sym ends.first.named ∙ paged)) ends.first.selected)
+        ends.selected (nothing_selected ends.first.name (name_in ends.first.name name (sym ends.first.named ∙ paged))
+        ends.first.selected)
 
 nothing_at : (request : Request) (before after : Outside)
     → AtScript (course_of request).script (course_of request).page before after
@@ -118,9 +119,8 @@ pub unread_unselected : (words : List (List ℕ)) (request : Request) (name page
     → after.shelf.selected ≢ Some (Some name) → ReportsFront (course_of request) [] before after
 unread_unselected words request name page before after sound sound_after runs asked paged holds other =
     let run = runs.request request asked in
-    elim run.ends.which [
-      | inl unread ↦ no_front (course_of request) name page before after paged holds run sound other unread.name
-          sound_after unread.first
+    elim run.ends.2 [
+      | inl unread ↦ no_front (course_of request) name page before after paged holds run sound other sound_after unread.first
       | inr script ↦ nothing_at request before after
           (unread_at (course_of request).script (course_of request).page before after script)
     ]

@@ -1,8 +1,8 @@
 -- How a run of a generated page ends.
 use Rattle.std.proofs.Common.{◌≡◌, ◌≢◌, inl, ℕ, ◌^◌, ◌≤◌, Bool, true, false, List, [], ◌∷◌, ◌++◌, Result, Ok, Err, refl, sym}
-use Rattle.std.proofs.Common.{◌∙◌, ap, subst, arith, length, ◌⊎◌, inr}
+use Rattle.std.proofs.Common.{◌∙◌, ap, subst, arith, length, nat_lt, ◌⊎◌, inr}
 use Rattle.cept_codes.specs.declared.command.Command.{Command}
-use Rattle.cept_editor.specs.Events.{Event, report, paints}
+use Rattle.cept_editor.specs.Events.{Event, still_event, report, paints}
 use Rattle.cept_editor.specs.Made.{AreStill, ArePainted, output_of, AreMade, AreCutOff}
 use Rattle.cept_editor.proofs.Laws.{AreCutOff-longer, cut_untouched, report-one, ArePainted-still, AreMade-none}
 use Rattle.cept_editor.proofs.Laws.{AreMade-end, AreCutOff-end}
@@ -20,12 +20,12 @@ use Rattle.cept_run.specs.declared.page.Stop.TheVariants as stops
 use Rattle.cept_run.specs.declared.run.Status.{Status}
 use Rattle.cept_run.specs.declared.run.Status.TheVariants as statuses
 use Rattle.cept_run.specs.declared.words.ReportOptions.{ReportOptions}
-use Rattle.cept_run.specs.Course.{Course, Given, NoScript, sequel_in, report_course, plain_course, text_event}
-use Rattle.cept_run.specs.Events.{history, item_events, text_at_end, edited_events, has_refusal, Sequel, NoSequel}
-use Rattle.cept_run.specs.Events.{remaining_after}
+use Rattle.cept_run.specs.Course.{Course, Given, NoScript, sequel_in, report_course, plain_course}
+use Rattle.cept_run.specs.Events.{history, item_events, refused_count, Sequel, NoSequel, remaining_after}
+use Rattle.cept_run.specs.inside.Reporting.{text_at_end}
 use Rattle.cept_run.specs.Outside.{Outside, output, PutsWhole, PutsUnflushed, PutsFront}
 use Rattle.cept_run.specs.Page.{PutsEnd}
-use Rattle.cept_run.specs.Reporting.{Plan, sequel_of, remaining_at_end}
+use Rattle.cept_run.specs.Reporting.{Plan, sequel_of, edited_events, remaining_at_end}
 use Rattle.cept_run.specs.Run.{Restores, EndsWhole, IsReportCut, Ends, RunsCourse, status_at_end}
 use Rattle.cept_run.specs.Words.{is_painted}
 use Rattle.cept_run.proofs.EditedLines.{edited_events-none}
@@ -43,7 +43,7 @@ module _ (page : List ℕ) (before after : Outside) (shelf : after.shelf ≡ bef
   bare = plain_course (Given page)
 
   abbrev event : Event
-  event = text_event page
+  event = still_event [] page
 
   runs_bare : (status : Status) → Ends bare before after status
       → (status ≢ statuses.WriteFault → after.sink.faults ≡ before.sink.faults) → EndsPut status before.sink after.sink → before.sink.faults ≤ after.sink.faults
@@ -114,10 +114,7 @@ module _ (page : List ℕ) (before after : Outside) (shelf : after.shelf ≡ bef
       cc
   runs_put (Err stop) puts =
       subst (λ (s : Stop). RunsCourse bare before after (status_at_end (Err s))) (sym puts.1)
-      (runs_bare statuses.WriteFault (record {
-        write_fault = puts.0.cause;
-        cut = inl (cut puts.0);
-      }) (λ other. absurd (other refl)) (inl (put_either page before.sink after.sink puts.0.put)) puts.0.later)
+      (runs_bare statuses.WriteFault (puts.0.cause, inl (cut puts.0)) (λ other. absurd (other refl)) (inl (put_either page before.sink after.sink puts.0.put)) puts.0.later)
 
 -- ---- the page is read
 
@@ -181,15 +178,15 @@ module _ (plan : Plan) (page : List ℕ) (before after : Outside) (shelf : after
       let own = subst (λ (s : Sequel). AreCutOff (edited_events options (closed_items page) s) (output before)
       (output after)) no_lines off in
       subst (λ (s : Stop). RunsCourse loaded before after (status_at_end (Err s))) (sym is)
-      (runs_loaded statuses.WriteFault (record {
-        write_fault = off.cause;
-        cut = inl (loaded_cut (inl (AreCutOff-longer (edited options NoScript page [])
+      (runs_loaded statuses.WriteFault (
+        off.cause,
+        inl (loaded_cut (inl (AreCutOff-longer (edited options NoScript page [])
             (the_end options NoScript page [] after.glass.grid ∷ []) shown_run (output before) (output after) refl own))
             (λ blank. cut_front meant_run (output before) (output after)
             (AreCutOff-longer (edited options NoScript page [])
             (the_end options NoScript page [] (grid (all options NoScript page [])) ∷ []) meant_run (output before)
-            (output after) refl own)));
-      }) (λ other. absurd (other refl)) (λ idle. cut_untouched (edited_events options (closed_items page) (sequel_of plan)) (output before) (output after)
+            (output after) refl own))),
+      ) (λ other. absurd (other refl)) (λ idle. cut_untouched (edited_events options (closed_items page) (sequel_of plan)) (output before) (output after)
       (subst AreStill (sym edited_is) (still_idle options (closed_items page) idle)) off)
       (inl (put_cut (edited_events options (closed_items page) (sequel_of plan)) (output before) (output after) off))
       off.later)
@@ -218,7 +215,7 @@ module _ (plan : Plan) (page : List ℕ) (before after : Outside) (shelf : after
     idle_run idle = made_all.painted.untouched
         (subst AreStill (sym edited_is) (still_idle options (closed_items page) idle))
 
-    loaded_whole : (refused : Bool) → refused ≡ has_refusal (closed_items page)
+    loaded_whole : (refused : Bool) → refused ≡ nat_lt 0 (refused_count (closed_items page))
         → PutsWhole (text_at_end options after.glass.grid page (all options NoScript page [])) sink after.sink
         → EndsWhole loaded before after refused
     loaded_whole refused is puts = record {
@@ -236,7 +233,7 @@ module _ (plan : Plan) (page : List ℕ) (before after : Outside) (shelf : after
     }
 
     by_end : (result : Result Bool Stop)
-        → PutsEnd (text_at_end options after.glass.grid page (all options NoScript page [])) (has_refusal (closed_items page)) sink
+        → PutsEnd (text_at_end options after.glass.grid page (all options NoScript page [])) (nat_lt 0 (refused_count (closed_items page))) sink
         result after.sink → RunsCourse loaded before after (status_at_end result)
     by_end (Ok false) puts = runs_loaded statuses.Done (loaded_whole false puts.1 puts.0) (λ other. puts.0.stays ∙ stays)
         idle_run (inr (refl, puts.0.room ∙ made.put.room))
@@ -246,16 +243,16 @@ module _ (plan : Plan) (page : List ℕ) (before after : Outside) (shelf : after
         (omega (arith, puts.0.stays, stays))
     by_end (Err stop) puts =
         subst (λ (s : Stop). RunsCourse loaded before after (status_at_end (Err s))) (sym puts.1)
-        (runs_loaded statuses.WriteFault (record {
-          write_fault = subst (λ n. Rose n after.sink.faults) stays puts.0.cause;
-          cut = inl (loaded_cut (cut_at_end options NoScript page [] before after sink made stays puts.0)
-              (front_at_end options NoScript page [] before after sink made stays puts.0));
-        }) (λ other. absurd (other refl)) idle_run (inl (put_to_end options NoScript page [] before after sink made stays puts.0))
+        (runs_loaded statuses.WriteFault (
+          subst (λ n. Rose n after.sink.faults) stays puts.0.cause,
+          inl (loaded_cut (cut_at_end options NoScript page [] before after sink made stays puts.0)
+              (front_at_end options NoScript page [] before after sink made stays puts.0)),
+        ) (λ other. absurd (other refl)) idle_run (inl (put_to_end options NoScript page [] before after sink made stays puts.0))
         (omega (arith, puts.0.later, stays)))
 
     pub loads_read : (result : Result Bool Stop)
         → PutsEnd (text_at_end options after.glass.grid page (remaining_at_end plan (closed_items page)))
-        (has_refusal (closed_items page)) sink result after.sink → RunsCourse loaded before after (status_at_end result)
+        (nat_lt 0 (refused_count (closed_items page))) sink result after.sink → RunsCourse loaded before after (status_at_end result)
     loads_read result puts = by_end result
         (subst (λ (h : List Command). PutsEnd (text_at_end options after.glass.grid page h)
-        (has_refusal (closed_items page)) sink result after.sink) all_is puts)
+        (nat_lt 0 (refused_count (closed_items page))) sink result after.sink) all_is puts)

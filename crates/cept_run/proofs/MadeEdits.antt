@@ -16,16 +16,16 @@ use Rattle.cept_editor.specs.declared.undo_redo.UndoRedo.{UndoRedo as UndoRedoKi
 use Rattle.cept_editor.specs.declared.undo_redo.UndoRedo.TheVariants.{Undo, Redo}
 use Rattle.cept_editor.specs.Meaning.{UndoRedo}
 use Rattle.cept_editor.specs.Script.{EditLine}
-use Rattle.cept_editor.specs.Stepping.{nothing_event, event_from, line_events, states_ahead, GoesOn}
+use Rattle.cept_editor.specs.Stepping.{event_from, line_events, states_ahead, GoesOn}
 use Rattle.cept_editor.proofs.Laws.{AreMade-none, AreMade-more, AreCutOff-here, AreMade-append, AreCutOff-after}
 use Rattle.cept_editor.proofs.Laws.{AreCutOff-longer, ArePainted-still}
 use Rattle.cept_profile.specs.State.{State}
 use Rattle.cept_outside.specs.Causes.{HasCause}
 use Rattle.cept_outside.specs.SinkState.{SinkState, PutsText}
 use Rattle.cept_report.specs.Text.{nothing_line}
-use Rattle.cept_run.specs.Events.{script_events, kept_of, events_of_line}
+use Rattle.cept_run.specs.Events.{script_events, kept_of}
 use Rattle.cept_run.specs.Reporting.{HasMadeLines}
-use Rattle.cept_run.proofs.EditedLines.{kept_of-none, kept_of-more}
+use Rattle.cept_run.proofs.EditedLines.{nothing_event, events_of_line, kept_of-none, kept_of-more}
 use Rattle.cept_run.proofs.EditedLines.{script_events-append, script_events-none, script_events-more}
 
 -- ---- one edit line

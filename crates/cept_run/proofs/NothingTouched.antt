@@ -1,7 +1,7 @@
 -- A run for which there is no memory touches nothing.
-use Rattle.std.proofs.Common.{◌≡◌, inl, true, refl, arith}
+use Rattle.std.proofs.Common.{◌≡◌, inl, true, [], refl, arith}
 use Rattle.cept_outside.specs.ShelfState.{ShelfState}
-use Rattle.cept_outside.proofs.Laws.{HasPut-nothing, append_known-nil}
+use Rattle.cept_outside.proofs.Laws.{Gains-nil, append_known-nil}
 use Rattle.cept_run.specs.declared.run.Status.TheVariants as statuses
 use Rattle.cept_run.specs.Course.{Course, Source, File, Given, ScriptSource, NoScript, ScriptFile}
 use Rattle.cept_run.specs.Outside.{Outside}
@@ -28,16 +28,13 @@ first_untouched (ScriptFile grammar name) page before = record {
 pub runs_without_memory : (course : Course) (before : Outside) → course.painting ≡ true
     → RunsCourse course before before statuses.NoMemory
 runs_without_memory course before painting = record {
-  ends = record {
-    memory = painting;
-    early = inl refl;
-  };
+  ends = (painting, inl refl);
   shelf = untouched course course.page before.shelf;
   shelf_stays = λ other. refl;
   sink_stays = λ other. refl;
   script_first = first_untouched course.script course.page before;
   unpainted = λ idle. refl;
-  unflushed = λ early other. HasPut-nothing before.sink;
+  unflushed = λ done refusals other. ([], Gains-nil before.sink);
   room = refl;
   sink_faults = omega arith;
 }

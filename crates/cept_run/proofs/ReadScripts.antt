@@ -4,6 +4,7 @@ use Rattle.cept_editor.specs.declared.script.ScriptFault.{ScriptFault}
 use Rattle.cept_editor.specs.declared.script.ScriptFault.TheVariants as faults
 use Rattle.cept_editor.specs.Fault.{SaysFault}
 use Rattle.cept_words.specs.Faults.{Fault}
+use Rattle.cept_report.specs.Text.{script_fault_line}
 use Rattle.cept_outside.specs.Causes.{Rose, HasCause}
 use Rattle.cept_outside.specs.ShelfState.{ShelfState, Selects, IsSound}
 use Rattle.cept_outside.specs.SinkState.{SinkState}
@@ -19,7 +20,6 @@ use Rattle.cept_run.specs.Taking.{AreLeft, TakesWhole}
 use Rattle.cept_run.specs.inside.ScriptReading.{TakingStops, Refuses, StopsAt}
 use Rattle.cept_run.specs.ScriptReading.{ScriptStops, ScriptEnds, SelectsScript}
 use Rattle.cept_run.specs.inside.ScriptReading.{as_script_fault}
-use Rattle.cept_run.specs.Run.{fault_text}
 use Rattle.cept_run.proofs.PagesInPieces.{KeepsFiles-more}
 use Rattle.cept_run.proofs.Selections.{selected_is, given_left}
 
@@ -110,7 +110,7 @@ module _ (grammar : Grammar) (name : List ℕ) (before after : ShelfState) where
 
     -- it isn't
     script_bad : (fault : Fault) (stop : Stop) (old new : SinkState) → first_fault_in grammar bytes ≡ Some fault
-        → Refuses (fault_text fault) old stop new → ScriptStops grammar name before old stop after new
+        → Refuses (script_fault_line fault.line fault.reason) old stop new → ScriptStops grammar name before old stop after new
     script_bad fault stops.ReadFault old new found refuses = elim refuses [ ]
     script_bad fault stops.WriteFault old new found refuses =
         record { bytes = bytes; takes = whole; fault = fault; found = found; put = refuses }

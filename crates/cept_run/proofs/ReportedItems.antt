@@ -34,8 +34,8 @@ use Rattle.cept_editor.proofs.Laws.{AreCutOff-longer}
 use Rattle.cept_run.specs.declared.target.Target.{Target}
 use Rattle.cept_run.specs.declared.target.Target.TheVariants as targets
 use Rattle.cept_run.specs.declared.words.ReportOptions.{ReportOptions}
-use Rattle.cept_run.specs.Events.{history, listed_text, text_of_said, item_event, item_events, refused_count}
-use Rattle.cept_run.specs.Events.{named_text, painted_count, Sequel, NoSequel, Edits, Figures}
+use Rattle.cept_run.specs.Events.{history, item_event, item_events, refused_count}
+use Rattle.cept_run.specs.Events.{Sequel, NoSequel, Edits, Figures}
 use Rattle.cept_parser.specs.Items.{items, closed_items, reading_within, is_refusal}
 use Rattle.cept_parser.specs.State.{Leads}
 use Rattle.cept_run.specs.Reporting.{DecoderState, HasRead, ReadsOn, ReadsToEnd}
@@ -43,9 +43,9 @@ use Rattle.cept_run.specs.Reporting.{Plan, ReporterState, painted_target, target
 use Rattle.cept_run.specs.Reporting.{HasReported}
 use Rattle.cept_run.specs.inside.Reporting.{Applies}
 use Rattle.cept_run.specs.Reporting.{AppliesOn, IsAppliedAfter}
-use Rattle.cept_run.specs.Reporting.{ReportsOn, counted_places}
-use Rattle.cept_run.specs.inside.Reporting.{IsListedAlone, command_event, is_quiet, refusal_text}
-use Rattle.cept_run.proofs.EventsOfItems.{history-none, history-command, history-refused, history-idle, item_events-more}
+use Rattle.cept_run.specs.Reporting.{ReportsOn, painted_count, counted_places}
+use Rattle.cept_run.specs.inside.Reporting.{IsListedAlone, command_event, is_quiet, listed_text, named_text, refusal_text, text_of_said}
+use Rattle.cept_run.proofs.EventsOfItems.{text_is, history-none, history-command, history-refused, history-idle, item_events-more}
 use Rattle.cept_run.specs.declared.words.Way.{Way}
 use Rattle.cept_run.specs.declared.words.Way.TheVariants as ways
 use Rattle.cept_run.specs.Words.{is_counted, is_painted, lists_changes}
@@ -204,8 +204,11 @@ module _ {X E : Type 0} (old new : ReporterState) (i : Item) (command : Command)
   command_made plan earlier stands =
       let p = plan_paints plan earlier stands in
       let h = history plan.options earlier in
+      let whole = history plan.options (earlier ++ i ∷ []) in
       let event : item_event plan.options earlier i ≡ command_event plan.options i.at h command =
-      ap (λ (hs : List Command). record {
+      ap (λ (t : List ℕ). record { before = h; after = whole; text = t })
+      (text_is plan.options i i.what (changes_between (grid h) (grid whole)))
+      ∙ ap (λ (hs : List Command). record {
         before = h;
         after = hs;
         text = text_of_said plan.options i i.what (changes_between (grid h) (grid hs));
@@ -256,7 +259,8 @@ module _ {X E : Type 0} (old : ReporterState) (i : Item) (command : Command) (si
       let text : listed_text old.options.way i [] ≡ (item_event plan.options earlier i).text =
       ap (λ (a : ReportOptions). listed_text a.way i []) stands.options_are
       ∙ unpainted_lines plan.options.way i (changes_between (grid before) (grid after)) p
-      ∙ ap (λ w. text_of_said plan.options i w (changes_between (grid before) (grid after))) (sym is) in
+      ∙ ap (λ w. text_of_said plan.options i w (changes_between (grid before) (grid after))) (sym is)
+      ∙ sym (text_is plan.options i i.what (changes_between (grid before) (grid after))) in
       record {
         puts = subst (λ (t : List ℕ). PutsText sink t result now) text puts;
         painted = ArePainted-still (item_event plan.options earlier i) glass
@@ -373,7 +377,9 @@ module _ {X E : Type 0} (old : ReporterState) (i : Item) (reason : Reason) (sink
       let text : refusal_text old.options i reason ≡ (item_event plan.options earlier i).text =
       ap (λ (a : ReportOptions). refusal_text a i reason) stands.options_are
       ∙ ap (λ w. text_of_said plan.options i w (changes_between (grid (history plan.options earlier))
-      (grid (history plan.options (earlier ++ i ∷ []))))) (sym is) in
+      (grid (history plan.options (earlier ++ i ∷ []))))) (sym is)
+      ∙ sym (text_is plan.options i i.what (changes_between (grid (history plan.options earlier))
+      (grid (history plan.options (earlier ++ i ∷ []))))) in
       record {
         puts = subst (λ (t : List ℕ). PutsText sink t result now) text puts;
         painted = ArePainted-still (item_event plan.options earlier i) glass (history-refused plan.options earlier i reason is);

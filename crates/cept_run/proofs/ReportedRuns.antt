@@ -1,10 +1,10 @@
 -- What was reported of a page that was read to its end, after what was done after it.
-use Rattle.std.proofs.Common.{◌≡◌, ◌⊎◌, inl, inr, ℕ, Bool, true, false, not, cond, length, List, [], ◌∷◌, ◌++◌, take, refl, sym, ◌∙◌, ap, subst}
+use Rattle.std.proofs.Common.{◌≡◌, ◌⊎◌, inl, inr, ℕ, Bool, true, false, not, ◌&&◌, length, List, [], ◌∷◌, ◌++◌, take, refl, sym, ◌∙◌, ap, subst}
 use Rattle.std.proofs.Common.{length-append}
 use Rattle.std.specs.Io.KnownBytes.{append_known}
 use Rattle.cept_codes.specs.declared.command.Command.{Command}
 use Rattle.cept_codes.specs.declared.look.Look.{Look}
-use Rattle.cept_editor.specs.Events.{Event, report, paints}
+use Rattle.cept_editor.specs.Events.{Event, still_event, report, paints}
 use Rattle.cept_editor.specs.Made.{Output, output_of, AreMade, AreCutOff}
 use Rattle.cept_editor.proofs.Laws.{report-append, report-one, AreMade-end, AreCutOff-end, ArePainted-more}
 use Rattle.cept_editor.proofs.Laws.{ArePainted-still}
@@ -16,16 +16,16 @@ use Rattle.cept_profile.specs.Look.{grid}
 use Rattle.cept_profile.specs.State.{core}
 use Rattle.cept_writer.specs.CompactCommands.{page_text}
 use Rattle.cept_run.specs.declared.words.ReportOptions.{ReportOptions}
-use Rattle.cept_run.specs.Events.{text_at_end, painted_end, end_event, edited_events, run_events, remaining_of, refused_count}
-use Rattle.cept_run.specs.Events.{Sequel, counts_text}
+use Rattle.cept_run.specs.Events.{Sequel, end_text, run_events, remaining_of}
 use Rattle.cept_run.specs.Outside.{Outside, output, PutsWhole, PutsUnflushed, PutsFront}
-use Rattle.cept_run.specs.Course.{Source, ScriptSource, sequel_in, is_page, puts_page, report_course}
+use Rattle.cept_run.specs.Course.{Source, ScriptSource, sequel_in, puts_page, report_course}
 use Rattle.cept_run.specs.declared.words.End.{End}
 use Rattle.cept_run.specs.declared.words.End.TheVariants as ends
 use Rattle.cept_run.specs.Run.{Restores, ReportsWhole}
 use Rattle.cept_run.specs.declared.words.Way.{Way}
 use Rattle.cept_run.specs.declared.words.Way.TheVariants as ways
-use Rattle.cept_run.specs.Words.{is_painted, lists_changes}
+use Rattle.cept_run.specs.Reporting.{edited_events}
+use Rattle.cept_run.specs.inside.Reporting.{text_at_end}
 use Rattle.std.proofs.lemmas.Bool.{and_parts}
 use Rattle.cept_run.proofs.EditedLines.{edited_events-chained}
 use Rattle.cept_run.proofs.FrontsPut.{either_front}
@@ -43,7 +43,7 @@ put_cut events before after off = record { part = report off.done ++ take off.si
 -- nothing is put but the page
 pub record PutsPage (options : ReportOptions) : Type 0 where
   pub way : options.way ≡ ways.Paint
-  pub end : is_page options.end ≡ true
+  pub end : options.end ≡ ends.Page
   pub refusals : options.refusals ≡ false
   pub edits_listed : options.edits_listed ≡ false
 
@@ -52,41 +52,36 @@ unset : (b : Bool) → not b ≡ true → b ≡ false
 unset true e = cc
 unset false e = refl
 
-painted_alone : (way : Way) → is_painted way ≡ true → lists_changes way ≡ false → way ≡ ways.Paint
-painted_alone ways.Count p l = cc
-painted_alone ways.List p l = cc
-painted_alone ways.Paint p l = refl
-painted_alone ways.PaintAndList p l = cc
+page_alone : (way : Way) (end : End) → puts_page way end ≡ true → (way ≡ ways.Paint) × (end ≡ ends.Page)
+page_alone ways.Count end is = cc
+page_alone ways.List end is = cc
+page_alone ways.Paint ends.Nothing is = cc
+page_alone ways.Paint ends.Screen is = cc
+page_alone ways.Paint ends.Cells is = cc
+page_alone ways.Paint ends.Page is = (refl, refl)
+page_alone ways.Paint ends.Counts is = cc
+page_alone ways.Paint (ends.Phases turns) is = cc
+page_alone ways.PaintAndList end is = cc
 
-puts_page_by : (options : ReportOptions) → puts_page options ≡ true → PutsPage options
+puts_page_by : (options : ReportOptions)
+    → (puts_page options.way options.end && not options.refusals && not options.edits_listed) ≡ true → PutsPage options
 puts_page_by options is =
-    let four = and_parts _ (not options.edits_listed) is in
-    let three = and_parts _ (not options.refusals) four.0 in
-    let two = and_parts _ (not (lists_changes options.way)) three.0 in
-    let one = and_parts (is_painted options.way) (is_page options.end) two.0 in
+    let three = and_parts _ (not options.edits_listed) is in
+    let two = and_parts (puts_page options.way options.end) (not options.refusals) three.0 in
+    let one = page_alone options.way options.end two.0 in
     record {
-      way = painted_alone options.way one.0 (unset (lists_changes options.way) two.1);
+      way = one.0;
       end = one.1;
-      refusals = unset options.refusals three.1;
-      edits_listed = unset options.edits_listed four.1;
+      refusals = unset options.refusals two.1;
+      edits_listed = unset options.edits_listed three.1;
     }
 
 -- the text at the end is the page then
-page_end : (end : End) (options : ReportOptions) (shown : List (List Look)) (page : List ℕ) (commands : List Command)
-    → is_page end ≡ true → painted_end end options shown page commands ≡ page_text (core commands)
-page_end ends.Nothing options shown page commands e = cc
-page_end ends.Screen options shown page commands e = cc
-page_end ends.Cells options shown page commands e = cc
-page_end ends.Page options shown page commands e = refl
-page_end ends.Counts options shown page commands e = cc
-page_end (ends.Phases turns) options shown page commands e = cc
-
 written_text : (options : ReportOptions) (shown : List (List Look)) (page : List ℕ) (commands : List Command)
     → PutsPage options → text_at_end options shown page commands ≡ page_text (core commands)
 written_text options shown page commands puts =
-    ap (λ (w : Way). cond (is_painted w) (painted_end options.end options shown page commands)
-    (counts_text w (length (closed_items page)) (refused_count (closed_items page)))) puts.way
-    ∙ page_end options.end options shown page commands puts.end
+    ap (λ (w : Way). end_text w options.end options shown page commands) puts.way
+    ∙ ap (λ (e : End). end_text ways.Paint e options shown page commands) puts.end
 
 -- ---- a page, and what a script or a drawing says is done after it
 
@@ -101,7 +96,7 @@ module _ (options : ReportOptions) (source : ScriptSource) (bytes script : List 
   edited = edited_events options (closed_items bytes) sequel
 
   abbrev pub the_end : List (List Look) → Event
-  the_end shown = end_event options shown bytes all
+  the_end shown = still_event all (text_at_end options shown bytes all)
 
   abbrev pub the_run : List (List Look) → List Event
   the_run shown = run_events options bytes sequel shown

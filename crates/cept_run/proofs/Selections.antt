@@ -9,7 +9,6 @@ use Rattle.cept_outside.specs.SinkState.{SinkState, HasPut, Gains, GainsPart}
 use Rattle.cept_run.specs.declared.run.Status.{Status}
 use Rattle.cept_run.specs.declared.run.Status.TheVariants as statuses
 use Rattle.cept_run.specs.Course.{Gives}
-use Rattle.cept_run.specs.Run.{is_whole}
 
 -- ---- the selection
 
@@ -103,22 +102,32 @@ put_either text s t (inr all) = record { part = text; gains = all.0 }
 
 -- the run ended with a flush
 abbrev pub is_flushed : Status → Bool
+is_flushed statuses.Done = true
+is_flushed statuses.Refusals = true
 is_flushed statuses.Script = true
-is_flushed status = is_whole status
+is_flushed _ = false
 
-unflushed_unless : (status : Status) → is_whole status ≡ false → status ≢ statuses.Script → is_flushed status ≡ false
-unflushed_unless statuses.Script early other = absurd (other refl)
-unflushed_unless status early other = early
+unflushed_unless : (status : Status) → status ≢ statuses.Done → status ≢ statuses.Refusals → status ≢ statuses.Script
+    → is_flushed status ≡ false
+unflushed_unless statuses.Done done refusals other = absurd (done refl)
+unflushed_unless statuses.Refusals done refusals other = absurd (refusals refl)
+unflushed_unless statuses.Usage done refusals other = refl
+unflushed_unless statuses.Script done refusals other = absurd (other refl)
+unflushed_unless statuses.ReadFault done refusals other = refl
+unflushed_unless statuses.WriteFault done refusals other = refl
+unflushed_unless statuses.NoMemory done refusals other = refl
+unflushed_unless statuses.TooLong done refusals other = refl
+unflushed_unless statuses.NotSeven done refusals other = refl
 
 -- bytes were put and nothing flushed; or the run ended with a flush, and the sink kept its room
 abbrev pub EndsPut : Status → SinkState → SinkState → Type 0
 EndsPut status s t = HasPut s t ⊎ ((is_flushed status ≡ true) × (t.room ≡ s.room))
 
-pub put_unless : (status : Status) (s t : SinkState) → EndsPut status s t → is_whole status ≡ false
-    → status ≢ statuses.Script → HasPut s t
-put_unless status s t (inl put) early other = put
-put_unless status s t (inr ended) early other =
-    let no : false ≡ true = sym (unflushed_unless status early other) ∙ ended.0 in
+pub put_unless : (status : Status) (s t : SinkState) → EndsPut status s t → status ≢ statuses.Done
+    → status ≢ statuses.Refusals → status ≢ statuses.Script → (part : List ℕ) × Gains s part t
+put_unless status s t (inl put) done refusals other = (put.part, put.gains)
+put_unless status s t (inr ended) done refusals other =
+    let no : false ≡ true = sym (unflushed_unless status done refusals other) ∙ ended.0 in
     cc
 
 pub room_kept : (status : Status) (s t : SinkState) → EndsPut status s t → t.room ≡ s.room

@@ -1,13 +1,15 @@
 -- What a blank glass shows after each event of a run.
 use Rattle.std.proofs.Common.{◌≡◌, ℕ, List, [], ◌∷◌, ◌++◌, ◌∙◌, ap}
 use Rattle.cept_codes.specs.declared.look.Look.{Look}
-use Rattle.cept_editor.specs.Events.{Event, paints}
+use Rattle.cept_editor.specs.Events.{Event, still_event, paints}
 use Rattle.cept_editor.specs.Made.{Output, AreCutOff}
 use Rattle.cept_parser.specs.Items.{closed_items}
 use Rattle.cept_profile.specs.Changes.{grid_with_paints}
 use Rattle.cept_profile.specs.Look.{grid}
 use Rattle.cept_run.specs.declared.words.ReportOptions.{ReportOptions}
-use Rattle.cept_run.specs.Events.{Sequel, edited_events, end_event, remaining_of, run_events}
+use Rattle.cept_run.specs.Events.{Sequel, remaining_of, run_events}
+use Rattle.cept_run.specs.Reporting.{edited_events}
+use Rattle.cept_run.specs.inside.Reporting.{text_at_end}
 use Rattle.cept_run.proofs.EditedLines.{edited_events-chained}
 use Rattle.cept_run.proofs.PaintedItems.{AreChained, chained-append, chained-one, each_shown}
 
@@ -15,7 +17,7 @@ module _ (options : ReportOptions) (page : List ℕ) (sequel : Sequel) (shown : 
   chained : AreChained [] (run_events options page sequel shown) (remaining_of options page sequel)
   chained =
       let all = remaining_of options page sequel in
-      let last = end_event options shown page all in
+      let last = still_event all (text_at_end options shown page all) in
       chained-append [] all all (edited_events options (closed_items page) sequel) (last ∷ [])
       (edited_events-chained options (closed_items page) sequel) (chained-one last)
 

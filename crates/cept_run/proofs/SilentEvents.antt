@@ -11,17 +11,18 @@ use Rattle.cept_editor.specs.Events.{Event, report}
 use Rattle.cept_editor.specs.Kept.{KeptEdits, finds_nothing, kept_after, remaining}
 use Rattle.cept_editor.specs.Meaning.{Step, UndoRedo, Edit}
 use Rattle.cept_editor.specs.Script.{EditLine}
-use Rattle.cept_editor.specs.Stepping.{event_from, nothing_event, edit_events, line_events}
+use Rattle.cept_editor.specs.Stepping.{event_from, edit_events, line_events}
 use Rattle.cept_plot.specs.declared.figure.Figure.{Figure}
 use Rattle.cept_editor.proofs.Laws.{report-append, report-one, report-none}
 use Rattle.cept_run.specs.declared.words.ReportOptions.{ReportOptions}
-use Rattle.cept_run.specs.Events.{listed_text, named_text}
 use Rattle.cept_run.specs.declared.words.Way.{Way}
 use Rattle.cept_run.specs.declared.words.Way.TheVariants as ways
-use Rattle.cept_run.specs.Events.{history, text_of_said, item_event, item_events, events_of_line}
-use Rattle.cept_run.specs.Events.{edited_events, kept_of, Sequel, NoSequel, Edits, Figures, drawing_commands, sequel_events}
-use Rattle.cept_run.proofs.EventsOfItems.{events_after, item_events-after}
-use Rattle.cept_run.proofs.EditedLines.{lines_after, script_events-after}
+use Rattle.cept_run.specs.Events.{history, item_event, item_events}
+use Rattle.cept_run.specs.Events.{kept_of, Sequel, NoSequel, Edits, Figures, drawing_commands, sequel_events}
+use Rattle.cept_run.specs.Reporting.{edited_events}
+use Rattle.cept_run.specs.inside.Reporting.{listed_text, named_text, text_of_said}
+use Rattle.cept_run.proofs.EventsOfItems.{text_is, events_after, item_events-after}
+use Rattle.cept_run.proofs.EditedLines.{nothing_event, events_of_line, lines_after, script_events-after}
 
 -- one event more, of no text
 silent_one : (e : Event) (es : List Event) → e.text ≡ [] → report es ≡ [] → report (e ∷ es) ≡ []
@@ -43,7 +44,7 @@ unfolding events_after
 silent_items_after options earlier [] c r = report-none
 silent_items_after options earlier (i ∷ is) c r =
     silent_one (item_event options earlier i) (events_after options (earlier ++ i ∷ []) is)
-    (silent_said options i i.what _ c r) (silent_items_after options (earlier ++ i ∷ []) is c r)
+    (text_is options i i.what _ ∙ silent_said options i i.what _ c r) (silent_items_after options (earlier ++ i ∷ []) is c r)
 
 -- and no edits
 silent_edit : (line n : ℕ) (earlier whole rest : List Command)

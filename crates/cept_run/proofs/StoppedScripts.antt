@@ -10,6 +10,7 @@ use Rattle.cept_editor.specs.Made.{output_of}
 use Rattle.cept_outside.specs.ShelfState.{ShelfState, IsSound}
 use Rattle.cept_outside.specs.SinkState.{SinkState, HasPut, Gains, GainsPart}
 use Rattle.cept_outside.proofs.Laws.{HasPut-nothing, append_known-nil}
+use Rattle.cept_report.specs.Text.{script_fault_line}
 use Rattle.cept_run.specs.declared.page.Stop.{Stop}
 use Rattle.cept_run.specs.declared.page.Stop.TheVariants as stops
 use Rattle.cept_run.specs.declared.run.Status.{Status}
@@ -18,11 +19,12 @@ use Rattle.cept_run.specs.declared.words.ReportOptions.{ReportOptions}
 use Rattle.cept_run.specs.Course.{Course, Source, File, Given, Gives, Grammar, first_fault_in, NoScript, ScriptFile, report_course}
 use Rattle.cept_run.specs.Events.{Sequel}
 use Rattle.cept_run.specs.Outside.{Outside, outside_of, PutsWhole, PutsFront}
-use Rattle.cept_run.specs.Run.{fault_text, EndsAtBadLine, IsAtScript, Ends, RunsCourse}
+use Rattle.cept_run.specs.Run.{EndsAtBadLine, IsAtScript, Ends, RunsCourse}
 use Rattle.cept_run.specs.Run.{status_of}
 use Rattle.cept_run.specs.ScriptReading.{ScriptWhole, ScriptRefused, ScriptStops, SelectsScript}
 use Rattle.cept_run.specs.inside.ScriptReading.{ScriptKnown}
 use Rattle.cept_run.specs.Words.{is_painted}
+use Rattle.cept_run.proofs.FrontsPut.{front_of}
 use Rattle.cept_run.proofs.Selections.{put_either, EndsPut, put_unless, room_kept}
 
 -- the name of a file
@@ -91,7 +93,7 @@ module _ (options : ReportOptions) (grammar : Grammar) (page name : List ℕ) (b
       → (status ≢ statuses.ReadFault → shelf.faults ≡ before.shelf.faults)
       → (status ≢ statuses.WriteFault → sink.faults ≡ before.sink.faults)
       → ((script : List ℕ) (fault : Fault) → Gives before.shelf name script
-      → first_fault_in grammar script ≡ Some fault → PutsAtMost (fault_text fault) before now)
+      → first_fault_in grammar script ≡ Some fault → PutsAtMost (script_fault_line fault.line fault.reason) before now)
       → EndsPut status before.sink sink → before.sink.faults ≤ sink.faults
       → RunsCourse course before now status
   runs_script status ends shelf_stays sink_stays bad puts later = record {
@@ -136,15 +138,15 @@ module _ (options : ReportOptions) (grammar : Grammar) (page name : List ℕ) (b
 
   module _ {Put : List ℕ → Type 0} (refused : ScriptRefused grammar name before.shelf shelf Put) where
     abbrev text : List ℕ
-    text = fault_text refused.fault
+    text = script_fault_line refused.fault.line refused.fault.reason
 
     -- its fault is the one that was found
     most_as : PutsAtMost text before now → (script : List ℕ) (fault : Fault) → Gives before.shelf name script
-        → first_fault_in grammar script ≡ Some fault → PutsAtMost (fault_text fault) before now
+        → first_fault_in grammar script ≡ Some fault → PutsAtMost (script_fault_line fault.line fault.reason) before now
     most_as most script fault given found =
         let same : refused.fault ≡ fault = same_Some refused.fault fault (sym refused.found ∙ ap (first_fault_in grammar)
         (refused.takes.known script given) ∙ found) in
-        subst (λ (f : Fault). PutsAtMost (fault_text f) before now) same most
+        subst (λ (f : Fault). PutsAtMost (script_fault_line f.line f.reason) before now) same most
 
     bad_line : (Puts : List ℕ → SinkState → SinkState → Type 0) → Puts text before.sink sink
         → EndsAtBadLine Puts grammar name before now
@@ -175,15 +177,13 @@ module _ (options : ReportOptions) (grammar : Grammar) (page name : List ℕ) (b
 
   pub ends_at_script : (stop : Stop) → IsSound shelf → ScriptStops grammar name before.shelf before.sink stop shelf sink
       → RunsCourse course before now (status_of stop)
-  ends_at_script stops.ReadFault sound ends = runs_unput statuses.ReadFault (record {
-    read_fault = ends.0.cause;
-    unended = ends.0.unended;
-    which = inr (at_script ends.1, ends.0.few);
-  }) (λ other. absurd (other refl)) ends.1
-  ends_at_script stops.WriteFault sound ends = runs_script statuses.WriteFault (record {
-    write_fault = ends.put.cause;
-    cut = inr (bad_line ends PutsFront ends.put.put);
-  }) (λ other. ends.takes.stays) (λ other. absurd (other refl)) (most_as ends (most_part ends ends.put.put))
+  ends_at_script stops.ReadFault sound ends =
+      runs_unput statuses.ReadFault (ends.0.cause, ends.0.unended, inr (at_script ends.1, ends.0.few))
+      (λ other. absurd (other refl)) ends.1
+  ends_at_script stops.WriteFault sound ends = runs_script statuses.WriteFault (
+    ends.put.cause,
+    inr (bad_line ends PutsFront (front_of (text ends) before.sink sink ends.put.put)),
+  ) (λ other. ends.takes.stays) (λ other. absurd (other refl)) (most_as ends (most_part ends ends.put.put))
       (inl (put_either (text ends) before.sink sink ends.put.put)) ends.put.later
   ends_at_script stops.TooLong sound ends = runs_unput statuses.TooLong
       (inr (at_script ends.1, ends.0.cause, named_so_long shelf sound ends.0.cause, ends.0.longer))
@@ -191,8 +191,6 @@ module _ (options : ReportOptions) (grammar : Grammar) (page name : List ℕ) (b
   ends_at_script stops.Script sound ends = runs_script statuses.Script (bad_line ends PutsWhole ends.put)
       (λ other. ends.takes.stays) (λ other. ends.put.stays) (most_as ends (most_all ends ends.put.put))
       (inr (refl, ends.put.room)) (omega (arith, ends.put.stays))
-  ends_at_script stops.NoMemory sound ends = runs_unput statuses.NoMemory (record {
-    memory = painting;
-    early = inr (at_script ends.0);
-  }) (λ other. ends.1) ends.0
+  ends_at_script stops.NoMemory sound ends = runs_unput statuses.NoMemory (painting, inr (at_script ends.0))
+      (λ other. ends.1) ends.0
   ends_at_script stops.NotSeven sound ends = elim ends [ ]

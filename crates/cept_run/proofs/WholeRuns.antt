@@ -11,7 +11,7 @@ use Rattle.cept_run.specs.declared.run.Status.{Status}
 use Rattle.cept_run.specs.declared.run.Status.TheVariants as statuses
 use Rattle.cept_run.specs.Course.{Course, Source, File, Gives, ScriptSource, NoScript, ScriptFile, course_of}
 use Rattle.cept_run.specs.Outside.{Outside}
-use Rattle.cept_run.specs.Run.{is_whole, ReportsFirst, EndsAtReadFault, IsPageTooLong, EndsAtScript, Ends, ReadsFiles}
+use Rattle.cept_run.specs.Run.{ReportsFirst, IsPageTooLong, EndsAtScript, Ends, ReadsFiles}
 use Rattle.cept_run.specs.Run.{ReportsFront, TouchesShelf, RunsCourse, IsShortScript, IsUnreadable, Runs}
 use Rattle.cept_run.specs.Run.{status_at_end}
 use Rattle.cept_run.specs.Words.{Request, request_of}
@@ -43,10 +43,10 @@ reads_files course name before after status is =
 
 -- the first bytes of a known page are reported
 pub first_of : (course : Course) (name page : List ℕ) (before after : Outside) → course.page ≡ File name
-    → Holds before.shelf name page → (other : List ℕ) (size : ℕ) → ReportsFirst course other size before after
+    → Holds before.shelf name page → (size : ℕ) → ReportsFirst course size before after
     → ReportsFront course (take size page) before after
-first_of course name page before after paged holds other size first =
-    let same : other ≡ name = name_in other name (sym first.named ∙ paged) in
+first_of course name page before after paged holds size first =
+    let same : first.name ≡ name = name_in first.name name (sym first.named ∙ paged) in
     subst (λ (b : List ℕ). ReportsFront course b before after)
     (first.front_is page (inl (subst (λ n. Holds before.shelf n page) (sym same) holds))) first.reports
 
@@ -55,16 +55,16 @@ module _ (course : Course) (name page : List ℕ) (before after : Outside) (page
   not_script : (status : Status) → EndsAtScript course.script course.page before after status → ⊥
   not_script status = subst (λ (s : ScriptSource). EndsAtScript s course.page before after status) alone
 
-  unread_by : EndsAtReadFault course before after → ReportsFront course (take after.shelf.taken page) before after
+  unread_by : Ends course before after statuses.ReadFault → ReportsFront course (take after.shelf.taken page) before after
   unread_by ends =
-      elim ends.which [
-        | inl unread ↦ first_of course name page before after paged holds unread.name after.shelf.taken unread.first
+      elim ends.2 [
+        | inl unread ↦ first_of course name page before after paged holds after.shelf.taken unread.first
         | inr script ↦ absurd (not_script statuses.ReadFault script)
       ]
 
   too_long_by : IsPageTooLong course before after ⊎ EndsAtScript course.script course.page before after statuses.TooLong
       → ReportsFront course (take (2 ^ 24) page) before after
-  too_long_by (inl ends) = first_of course name page before after paged holds ends.name (2 ^ 24) ends.first
+  too_long_by (inl ends) = first_of course name page before after paged holds (2 ^ 24) ends.first
   too_long_by (inr ends) = absurd (not_script statuses.TooLong ends)
 
 pub unread_reported : (words : List (List ℕ)) (request : Request) (name page : List ℕ) (before after : Outside)
@@ -99,7 +99,7 @@ not_too_long course name page before after paged (inl ends) given few short = om
   arith,
   few,
   ends.longer page
-      (subst (λ n. Gives before.shelf n page) (name_in name ends.name (sym paged ∙ ends.first.named)) given),
+      (subst (λ n. Gives before.shelf n page) (name_in name ends.first.name (sym paged ∙ ends.first.named)) given),
 )
 not_too_long course name page before after paged (inr ends) given few short =
     not_short course.script course.page before after ends short
@@ -109,24 +109,24 @@ completes_by : (course : Course) (name page : List ℕ) (before after : Outside)
     → course.page ≡ File name → Ends course before after status → Gives before.shelf name page
     → length page ≤ 2 ^ 24 → IsShortScript before.shelf course.script
     → (Rose before.shelf.faults after.shelf.faults → ⊥) → (Rose before.sink.faults after.sink.faults → ⊥)
-    → (is_whole status ≡ true) ⊎ (status ≡ statuses.Script)
+    → (status ≡ statuses.Done) ⊎ (status ≡ statuses.Refusals) ⊎ (status ≡ statuses.Script)
     ⊎ ((status ≡ statuses.NoMemory) × (course.painting ≡ true))
     ⊎ ((status ≡ statuses.NotSeven) × IsUnreadable course page)
 completes_by course name page before after statuses.Done paged ends given few short shelf sink = inl refl
-completes_by course name page before after statuses.Refusals paged ends given few short shelf sink = inl refl
+completes_by course name page before after statuses.Refusals paged ends given few short shelf sink = inr (inl refl)
 completes_by course name page before after statuses.Usage paged ends given few short shelf sink = elim ends [ ]
-completes_by course name page before after statuses.Script paged ends given few short shelf sink = inr (inl refl)
+completes_by course name page before after statuses.Script paged ends given few short shelf sink = inr (inr (inl refl))
 completes_by course name page before after statuses.ReadFault paged ends given few short shelf sink =
-    absurd (shelf ends.read_fault)
+    absurd (shelf ends.0)
 completes_by course name page before after statuses.WriteFault paged ends given few short shelf sink =
-    absurd (sink ends.write_fault)
+    absurd (sink ends.0)
 completes_by course name page before after statuses.NoMemory paged ends given few short shelf sink =
-    inr (inr (inl (refl, ends.memory)))
+    inr (inr (inr (inl (refl, ends.0))))
 completes_by course name page before after statuses.TooLong paged ends given few short shelf sink =
     absurd (not_too_long course name page before after paged ends given few short)
 completes_by course name page before after statuses.NotSeven paged ends given few short shelf sink =
-    let same = name_in name ends.name (sym paged ∙ ends.first.named) in
-    inr (inr (inr (refl, ends.unreadable page (subst (λ n. Gives before.shelf n page) same given))))
+    let same = name_in name ends.first.name (sym paged ∙ ends.first.named) in
+    inr (inr (inr (inr (refl, ends.unreadable page (subst (λ n. Gives before.shelf n page) same given)))))
 
 runs_by : (words : List (List ℕ)) (request : Request) (before after : Outside) (status : Status)
     → request_of words ≡ Some request → (status ≡ statuses.Usage → ⊥)

@@ -6,7 +6,7 @@ use Rattle.cept_run.specs.declared.page.Stop.TheVariants as stops
 use Rattle.cept_run.specs.declared.run.Status.{Status}
 use Rattle.cept_run.specs.declared.run.Status.TheVariants.{Done, NoMemory, NotSeven, ReadFault, Refusals, Script}
 use Rattle.cept_run.specs.declared.run.Status.TheVariants.{TooLong, Usage, WriteFault}
-use Rattle.cept_run.specs.Run.{is_whole, status_at_end, status_number}
+use Rattle.cept_run.specs.Run.{status_at_end, status_number}
 
 -- all statuses, in the order of their numbers
 abbrev statuses : List Status
@@ -14,10 +14,6 @@ statuses = Done ∷ Refusals ∷ Usage ∷ Script ∷ ReadFault ∷ WriteFault �
 
 numbers : map status_number statuses ≡ 0 ∷ 1 ∷ 2 ∷ 3 ∷ 4 ∷ 5 ∷ 6 ∷ 7 ∷ 8 ∷ []
 numbers = refl
-
--- 0 and 1: the page was read to its end
-read_to_the_end : map is_whole statuses ≡ true ∷ true ∷ false ∷ false ∷ false ∷ false ∷ false ∷ false ∷ false ∷ []
-read_to_the_end = refl
 
 -- a page was read without a refused item and with one; or the run stopped
 ends : map (λ (answer : Result Bool Stop). status_at_end answer)

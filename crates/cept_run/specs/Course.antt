@@ -4,7 +4,7 @@ use Rattle.std.specs.Prelude.{◌≡◌, ◌⊎◌, ℕ, Bool, true, false, not,
 use Rattle.std.specs.Prelude.{◌^◌, ◌≤◌, length}
 use Rattle.cept_codes.specs.declared.command.Command.{Command}
 use Rattle.cept_codes.specs.declared.look.Look.{Look}
-use Rattle.cept_editor.specs.Events.{Event}
+use Rattle.cept_editor.specs.Events.{Event, still_event}
 use Rattle.cept_editor.specs.Script.{edits, first_fault}
 use Rattle.cept_words.specs.Faults.{Fault}
 use Rattle.cept_generator.specs.Generated.{generated}
@@ -17,10 +17,12 @@ use Rattle.cept_run.specs.declared.words.End.{End}
 use Rattle.cept_run.specs.declared.words.End.TheVariants as ends
 use Rattle.cept_run.specs.declared.words.NumberAction.{NumberAction}
 use Rattle.cept_run.specs.declared.words.NumberAction.TheVariants as numbers
+use Rattle.cept_run.specs.declared.words.Way.{Way}
+use Rattle.cept_run.specs.declared.words.Way.TheVariants as ways
 use Rattle.cept_run.specs.Events.{history, item_events, run_events, remaining_of, Sequel, NoSequel, Edits, Figures}
 use Rattle.cept_run.specs.Converted.{converted, converted_front, readable_front, can_end_there}
 use Rattle.cept_run.specs.Words.{Request, Page, Bytes, Script, Number, Flash, Drawing, options_of_page, options_of_script}
-use Rattle.cept_run.specs.Words.{painting_options, is_painted, lists_changes}
+use Rattle.cept_run.specs.Words.{painting_options, is_painted}
 
 -- ---- what is read
 
@@ -31,8 +33,7 @@ pub data Source : Type 0 where
 
 -- the shelf tells its selection and these bytes under the name, or that it has nothing under it; then these are none
 abbrev pub Gives : ShelfState → List ℕ → List ℕ → Type 0
-Gives shelf name bytes =
-    Holds shelf name bytes ⊎ (Lacks shelf name × (is_some shelf.left ≡ true) × (bytes ≡ []))
+Gives shelf name bytes = Holds shelf name bytes ⊎ (Lacks shelf name × (is_some shelf.left ≡ true) × (bytes ≡ []))
 
 -- a source has these bytes: a file has those that the shelf gives, where it tells them
 abbrev pub HasBytes : ShelfState → Source → List ℕ → Type 0
@@ -95,15 +96,10 @@ pub record Course : Type 0 where
   -- nothing is put but the page, as bytes that bring it back
   pub written : Bool
 
--- what is put at the end is the page
-abbrev pub is_page : End → Bool
-is_page ends.Page = true
-is_page _ = false
-
--- nothing is put but the page, at the end
-abbrev pub puts_page : ReportOptions → Bool
-puts_page options =
-    is_painted options.way && is_page options.end && not (lists_changes options.way) && not options.refusals && not options.edits_listed
+-- no change is listed, and the page is put at the end
+abbrev pub puts_page : Way → End → Bool
+puts_page ways.Paint ends.Page = true
+puts_page _ _ = false
 
 -- items are reported, and then what a script or a drawing says is done
 abbrev pub report_course : ReportOptions → Source → ScriptSource → Course
@@ -118,21 +114,17 @@ report_course options page script = record {
   can_end = λ bytes. true;
   judged = true;
   painting = is_painted options.way;
-  written = puts_page options;
+  written = puts_page options.way options.end && not options.refusals && not options.edits_listed;
 }
-
--- a text is put
-abbrev pub text_event : List ℕ → Event
-text_event text = record { before = []; after = []; text = text }
 
 -- the bytes of a page are put as they are, whatever they say
 abbrev pub plain_course : Source → Course
 plain_course page = record {
   page = page;
   script = NoScript;
-  front_events = λ bytes. text_event bytes ∷ [];
+  front_events = λ bytes. still_event [] bytes ∷ [];
   front_remaining = λ bytes. [];
-  events = λ bytes lines shown. text_event bytes ∷ [];
+  events = λ bytes lines shown. still_event [] bytes ∷ [];
   remaining = λ bytes lines. [];
   readable_front = λ bytes. bytes;
   can_end = λ bytes. true;
@@ -146,8 +138,8 @@ plain_course page = record {
 abbrev pub course_of : Request → Course
 course_of (Page action page) = report_course (options_of_page action) (File page) NoScript
 course_of (Bytes action page) = record (plain_course (File page)) {
-  front_events = λ bytes. text_event (converted_front action bytes) ∷ [];
-  events = λ bytes lines shown. text_event (converted action bytes) ∷ [];
+  front_events = λ bytes. still_event [] (converted_front action bytes) ∷ [];
+  events = λ bytes lines shown. still_event [] (converted action bytes) ∷ [];
   readable_front = readable_front action;
   can_end = can_end_there action;
 }

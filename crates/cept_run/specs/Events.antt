@@ -1,11 +1,10 @@
 -- The events of a run: one for each item of the page, one for each command of each edit and for each undo and redo or for
 -- each command of a drawing, and one at the end. This project's own.
-use Rattle.std.specs.Prelude.{ℕ, Bool, false, List, [], ◌∷◌, ◌++◌, length, map, take, count_by, nat_lt}
+use Rattle.std.specs.Prelude.{ℕ, Bool, false, List, [], ◌∷◌, ◌++◌, length, map, take, count_by}
 use Rattle.std.specs.Prelude.{if◌then◌else◌}
 use Rattle.std.specs.List.{enumerate_from, flat_map}
 use Rattle.cept_codes.specs.declared.command.Command.{Command}
 use Rattle.cept_codes.specs.declared.item.Item.{Item}
-use Rattle.cept_codes.specs.declared.item.Reason.{Reason}
 use Rattle.cept_codes.specs.declared.item.Said.{Said}
 use Rattle.cept_codes.specs.declared.item.Said.TheVariants as said
 use Rattle.cept_codes.specs.declared.look.Look.{Look}
@@ -24,8 +23,8 @@ use Rattle.cept_report.specs.Screen.{screen_text, cells_text}
 use Rattle.cept_report.specs.Text.{change_lines, refusal_line, check_line, load_line}
 use Rattle.cept_profile.specs.State.{core}
 use Rattle.cept_writer.specs.CompactCommands.{page_text}
-use Rattle.cept_editor.specs.Events.{Event, paints}
-use Rattle.cept_editor.specs.Kept.{KeptEdits, kept, remaining}
+use Rattle.cept_editor.specs.Events.{Event, still_event, paints}
+use Rattle.cept_editor.specs.Kept.{KeptEdits, none_kept, kept_after_all, remaining}
 use Rattle.cept_editor.specs.Script.{EditLine}
 use Rattle.cept_editor.specs.Stepping.{edit_events, line_events}
 use Rattle.cept_run.specs.declared.words.ReportOptions.{ReportOptions}
@@ -41,21 +40,14 @@ use Rattle.cept_run.specs.Words.{is_painted}
 abbrev pub history : ReportOptions → List Item → List Command
 history options items = if is_painted options.way then commands_of items else []
 
--- what is listed of an item whose command changes these places: its own line, or a line for each place
-abbrev pub listed_text : Way → Item → List (Place × Look) → List ℕ
-listed_text ways.List item changes = item_line item
-listed_text ways.PaintAndList item changes = change_lines item.at changes
-listed_text _ item changes = []
-
--- how a refused item is named: among others in a line like theirs, else in one of its own
-abbrev pub named_text : Way → Item → Reason → List ℕ
-named_text ways.List item reason = item_line item
-named_text _ item reason = refusal_line item.at item.len reason
-
--- what is put of an item that changes these places
-abbrev pub text_of_said : ReportOptions → Item → Said → List (Place × Look) → List ℕ
-text_of_said options item (said.Command command) changes = listed_text options.way item changes
-text_of_said options item (said.Refused reason) changes = if options.refusals then named_text options.way item reason else []
+-- what is put of an item that changes these places: where items are listed its own line, where changes are a line for each
+-- place, and of a refused one a line, where these are named
+abbrev pub item_text : Way → Bool → Item → Said → List (Place × Look) → List ℕ
+item_text way false item (said.Refused reason) changes = []
+item_text ways.List named item what changes = item_line item
+item_text ways.PaintAndList named item (said.Command command) changes = change_lines item.at changes
+item_text way named item (said.Command command) changes = []
+item_text way named item (said.Refused reason) changes = refusal_line item.at item.len reason
 
 -- an item that comes after these
 abbrev pub item_event : ReportOptions → List Item → Item → Event
@@ -63,7 +55,7 @@ item_event options earlier item =
     let before = history options earlier in
     let after = history options (earlier ++ item ∷ []) in
     let changes = changes_between (grid before) (grid after) in
-    record { before = before; after = after; text = text_of_said options item item.what changes }
+    record { before = before; after = after; text = item_text options.way options.refusals item item.what changes }
 
 -- each of these items, after those before it
 unfoldable pub item_events : ReportOptions → List Item → List Event
@@ -76,58 +68,31 @@ item_events options items =
 abbrev pub refused_count : List Item → ℕ
 refused_count items = count_by (λ i. is_refusal i.what) items
 
--- an item is refused
-abbrev pub has_refusal : List Item → Bool
-has_refusal items = nat_lt 0 (refused_count items)
-
--- how many places are painted at these items
-abbrev pub painted_count : ReportOptions → List Item → ℕ
-painted_count options items = length (paints (item_events options items))
-
--- what is put at the end of a page that was painted, where these commands remain and the glass shows this grid
-abbrev pub painted_end : End → ReportOptions → List (List Look) → List ℕ → List Command → List ℕ
-painted_end ends.Nothing options shown page commands = []
-painted_end ends.Screen options shown page commands = screen_text shown (control commands).rows
-painted_end ends.Cells options shown page commands = cells_text shown (control commands).rows
-painted_end ends.Page options shown page commands = page_text (core commands)
-painted_end ends.Counts options shown page commands =
-    load_line (length page) (length (closed_items page)) (painted_count options (closed_items page))
-painted_end (ends.Phases turns) options shown page commands = phase_lines (grid commands) turns
-
--- what is put at the end of a page that wasn't painted: how many items it has, and how many refused, where counted
-abbrev pub counts_text : Way → ℕ → ℕ → List ℕ
-counts_text ways.Count items refused = check_line items refused
-counts_text _ items refused = []
-
--- what is put at the end of a page
-abbrev pub text_at_end : ReportOptions → List (List Look) → List ℕ → List Command → List ℕ
-text_at_end options shown page commands =
-    if is_painted options.way then painted_end options.end options shown page commands
-    else counts_text options.way (length (closed_items page)) (refused_count (closed_items page))
-
--- the end of a page, where these commands remain and the glass shows this grid: it changes nothing
-abbrev pub end_event : ReportOptions → List (List Look) → List ℕ → List Command → Event
-end_event options shown page commands = record {
-  before = commands;
-  after = commands;
-  text = text_at_end options shown page commands;
-}
+-- what is put at the end of a page, where these commands remain and the glass shows this grid; of a page that wasn't painted
+-- how many items it has, and how many refused, where these are counted
+abbrev pub end_text : Way → End → ReportOptions → List (List Look) → List ℕ → List Command → List ℕ
+end_text ways.Count end options shown page commands =
+    check_line (length (closed_items page)) (refused_count (closed_items page))
+end_text ways.List end options shown page commands = []
+end_text way ends.Nothing options shown page commands = []
+end_text way ends.Screen options shown page commands = screen_text shown (control commands).rows
+end_text way ends.Cells options shown page commands = cells_text shown (control commands).rows
+end_text way ends.Page options shown page commands = page_text (core commands)
+end_text way ends.Counts options shown page commands =
+    load_line (length page) (length (closed_items page)) (length (paints (item_events options (closed_items page))))
+end_text way (ends.Phases turns) options shown page commands = phase_lines (grid commands) turns
 
 -- ---- edit lines
 
 -- the edits that are kept after these edit lines
 abbrev pub kept_of : List EditLine → KeptEdits
-kept_of lines = kept (map (λ line. line.step) lines)
+kept_of lines = kept_after_all none_kept (map (λ line. line.step) lines)
 
--- the events of an edit line that comes after these, after a page's commands; their changes are listed or not
-abbrev pub events_of_line : Bool → List Command → List EditLine → EditLine → List Event
-events_of_line listed page earlier line =
-    line_events listed line.line page (kept_of earlier) line.step
-
--- the events of each of these edit lines, after those before it
+-- the events of each of these edit lines, after a page's commands and those before it; their changes are listed or not
 unfoldable pub script_events : Bool → List Command → List EditLine → List Event
 script_events listed page lines =
-    flat_map (λ numbered. events_of_line listed page (take numbered.0 lines) numbered.1) (enumerate_from 0 lines)
+    flat_map (λ numbered. line_events listed numbered.1.line page (kept_of (take numbered.0 lines)) numbered.1.step)
+    (enumerate_from 0 lines)
 
 -- ---- what is done after a page
 
@@ -159,13 +124,11 @@ remaining_after page (Figures figures) = page ++ drawing_commands page figures
 abbrev pub remaining_of : ReportOptions → List ℕ → Sequel → List Command
 remaining_of options page sequel = remaining_after (history options (closed_items page)) sequel
 
--- the events of a page that is read to its end, and of what is done after it
-abbrev pub edited_events : ReportOptions → List Item → Sequel → List Event
-edited_events options items sequel =
-    item_events options items ++ sequel_events options.edits_listed (history options items) sequel
-
--- all events of a run over a page read to its end and what is done after it, where the glass shows this grid at the end
+-- all events of a run over a page read to its end and what is done after it, where the glass shows this grid at the end; the
+-- last changes nothing
 abbrev pub run_events : ReportOptions → List ℕ → Sequel → List (List Look) → List Event
 run_events options page sequel shown =
-    edited_events options (closed_items page) sequel
-    ++ end_event options shown page (remaining_of options page sequel) ∷ []
+    let all = closed_items page in
+    let left = remaining_of options page sequel in
+    (item_events options all ++ sequel_events options.edits_listed (history options all) sequel)
+    ++ still_event left (end_text options.way options.end options shown page left) ∷ []

@@ -12,6 +12,7 @@ use Rattle.cept_profile.specs.Look.{grid}
 use Rattle.cept_profile.specs.State.{State, state}
 use Rattle.cept_profile.specs.Valid.{AllValid}
 use Rattle.cept_repaint.specs.GlassState.{GlassState, Lists}
+use Rattle.cept_editor.specs.Events.{Event, paints}
 use Rattle.cept_editor.specs.Kept.{none_kept, EditorState, StandsAfter}
 use Rattle.cept_editor.specs.Made.{Output, ArePainted, AreMade, AreCutOff}
 use Rattle.cept_editor.specs.Script.{EditLine}
@@ -22,8 +23,7 @@ use Rattle.cept_run.specs.declared.words.ReportOptions.{ReportOptions}
 use Rattle.cept_run.specs.declared.words.End.{End}
 use Rattle.cept_run.specs.declared.words.End.TheVariants as ends
 use Rattle.cept_run.specs.Words.{is_counted, is_painted}
-use Rattle.cept_run.specs.Events.{history, item_events, refused_count, painted_count, kept_of, script_events}
-use Rattle.cept_run.specs.Events.{edited_events}
+use Rattle.cept_run.specs.Events.{history, item_events, refused_count, kept_of, script_events}
 use Rattle.cept_run.specs.Events.{Sequel, NoSequel, Edits, Figures, drawing_commands, sequel_events}
 use Rattle.cept_run.specs.Events.{remaining_after}
 
@@ -80,6 +80,10 @@ sequel_at _ = NoSequel
 -- the plan by which it reports
 abbrev pub plan_in : ReporterState → Plan
 plan_in reporter = record { options = reporter.options; sequel = sequel_at reporter.target }
+
+-- how many places are painted at these items
+abbrev pub painted_count : ReportOptions → List Item → ℕ
+painted_count options items = length (paints (item_events options items))
 
 -- what is counted of so many painted places
 abbrev pub counted_places : ReportOptions → ℕ → ℕ
@@ -158,6 +162,11 @@ Draws figures old before new after =
     (page : List Command) → AllValid page → old ≡ state page → HasDrawn page figures before new after
 
 -- ---- the end
+
+-- the events of a page that is read to its end, and of what is done after it
+abbrev pub edited_events : ReportOptions → List Item → Sequel → List Event
+edited_events options items sequel =
+    item_events options items ++ sequel_events options.edits_listed (history options items) sequel
 
 -- the commands that remain at the end, after these items
 abbrev pub remaining_at_end : Plan → List Item → List Command

@@ -1,6 +1,6 @@
 -- The ends of a run, and what a run does by its end. This project's own.
 use Rattle.std.specs.Prelude.{◌≡◌, ◌≢◌, ◌↔◌, ◌⊎◌, ℕ, ◌^◌, ◌<◌, ◌≤◌, Bool, true, false, ◌&&◌, List, [], ◌∷◌, ◌++◌, length, take}
-use Rattle.std.specs.Prelude.{min, Some, None, IsSome, Result, Ok, Err, if◌then◌else◌}
+use Rattle.std.specs.Prelude.{min, nat_lt, Some, None, IsSome, Result, Ok, Err, if◌then◌else◌}
 use Rattle.std.specs.Io.KnownBytes.{append_known}
 use Rattle.std.specs.List.{AllByRecursion}
 use Rattle.cept_codes.specs.declared.command.Command.{Command}
@@ -9,7 +9,7 @@ use Rattle.cept_editor.specs.Made.{ArePainted, AreMade, AreCutOff}
 use Rattle.cept_words.specs.Faults.{Fault}
 use Rattle.cept_outside.specs.Causes.{Rose}
 use Rattle.cept_outside.specs.ShelfState.{ShelfState, Holds, KeepsFiles, bytes_under}
-use Rattle.cept_outside.specs.SinkState.{SinkState, HasPut}
+use Rattle.cept_outside.specs.SinkState.{SinkState, Gains}
 use Rattle.cept_parser.specs.Items.{closed_items, commands, is_refusal}
 use Rattle.cept_profile.specs.Changes.{grid_with_paints}
 use Rattle.cept_profile.specs.Look.{grid}
@@ -21,15 +21,9 @@ use Rattle.cept_run.specs.declared.run.Status.{Status}
 use Rattle.cept_run.specs.declared.run.Status.TheVariants as statuses
 use Rattle.cept_run.specs.Course.{Course, Source, File, Given, Gives, HasBytes, SelectsNoOther, course_of}
 use Rattle.cept_run.specs.Course.{Grammar, first_fault_in, ScriptSource, NoScript, ScriptFile, IsReadFirst}
-use Rattle.cept_run.specs.Events.{has_refusal}
+use Rattle.cept_run.specs.Events.{refused_count}
 use Rattle.cept_run.specs.Outside.{Outside, output, AreAllTaken, PutsWhole, PutsFront}
 use Rattle.cept_run.specs.Words.{Request, request_of}
-
--- the page was read to its end
-abbrev pub is_whole : Status → Bool
-is_whole statuses.Done = true
-is_whole statuses.Refusals = true
-is_whole _ = false
 
 -- a reset decoder reads these bytes without a refusal, and they bring the core, and so the grid, of these commands
 pub record Restores (bytes : List ℕ) (history : List Command) : Type 0 where
@@ -72,17 +66,13 @@ pub record EndsWhole (course : Course) (before after : Outside) (refused : Bool)
   pub script_is : IsReadFirst before.shelf course.script script
   -- the whole page is reported and the whole script made, in whatever pieces they come and the sink takes the text
   pub reports : ReportsWhole course page script before after
-  pub refusals : refused ≡ (course.judged && has_refusal (closed_items page))
+  pub refusals : refused ≡ (course.judged && nat_lt 0 (refused_count (closed_items page)))
   -- it can be read, and end there
   pub readable : course.readable_front page ≡ page
   pub can_end : course.can_end page ≡ true
   pub page_not_too_long : length page ≤ 2 ^ 24
   -- of a page in a file all bytes were taken, and no other is selected
   pub taken : (name : List ℕ) → course.page ≡ File name → AreAllTaken page after.shelf × SelectsNoOther name after.shelf
-
--- the line that says of a script what its first fault is
-abbrev pub fault_text : Fault → List ℕ
-fault_text fault = script_fault_line fault.line fault.reason
 
 -- a line of the script is outside the grammar. Of the line that says so this was put, and nothing else, and nothing painted
 pub record EndsAtBadLine (Puts : List ℕ → SinkState → SinkState → Type 0) (grammar : Grammar) (name : List ℕ)
@@ -93,7 +83,7 @@ pub record EndsAtBadLine (Puts : List ℕ → SinkState → SinkState → Type 0
   pub found : first_fault_in grammar script ≡ Some fault
   pub not_too_long : length script ≤ 2 ^ 20
   pub taken : AreAllTaken script after.shelf
-  pub put : Puts (fault_text fault) before.sink after.sink
+  pub put : Puts (script_fault_line fault.line fault.reason) before.sink after.sink
   pub unpainted : after.glass ≡ before.glass
 
 -- the run stands at the script in the file of this name: nothing was put and nothing painted, and no other name is selected
@@ -116,8 +106,9 @@ EndsAtScript (ScriptFile grammar name) page before after statuses.TooLong = IsAt
     × ((script : List ℕ) → Gives before.shelf name script → 2 ^ 20 < length script)
 EndsAtScript _ page before after _ = ⊥
 
--- of the page in the file of this name exactly the first bytes are reported, so many
-pub record ReportsFirst (course : Course) (name : List ℕ) (size : ℕ) (before after : Outside) : Type 0 where
+-- of the page in a file exactly the first bytes are reported, so many
+pub record ReportsFirst (course : Course) (size : ℕ) (before after : Outside) : Type 0 where
+  pub name : List ℕ
   pub named : course.page ≡ File name
   pub front : List ℕ
   pub counted : length front ≡ size
@@ -128,20 +119,11 @@ pub record ReportsFirst (course : Course) (name : List ℕ) (size : ℕ) (before
 
 -- status 4, at the page: it can't be read on. Its bytes that were taken are reported
 pub record IsPageUnread (course : Course) (before after : Outside) : Type 0 where
-  pub name : List ℕ
-  pub first : ReportsFirst course name after.shelf.taken before after
+  pub first : ReportsFirst course after.shelf.taken before after
   pub readable : course.readable_front first.front ≡ first.front
   pub few : after.shelf.taken ≤ 2 ^ 24
   -- before it is selected, nothing was put and nothing painted
   pub early : after.shelf.selected ≡ Some None → (after.sink ≡ before.sink) × (after.glass ≡ before.glass)
-
--- status 4: the page or the script can't be read on
-pub record EndsAtReadFault (course : Course) (before after : Outside) : Type 0 where
-  -- the shelf counted a fault
-  pub read_fault : Rose before.shelf.faults after.shelf.faults
-  -- no take had answered that there are no more bytes
-  pub unended : after.shelf.ended ≡ false
-  pub which : IsPageUnread course before after ⊎ EndsAtScript course.script course.page before after statuses.ReadFault
 
 -- the sink failed at an event of the bytes that were taken, a front of the page; of these 2^24 are reported at most
 pub record IsFrontCut (course : Course) (page : List ℕ) (before after : Outside) : Type 0 where
@@ -149,7 +131,7 @@ pub record IsFrontCut (course : Course) (page : List ℕ) (before after : Outsid
   pub cut : AreCutOff (course.front_events (take (min after.shelf.taken (2 ^ 24)) page)) (output before) (output after)
   pub unended : after.shelf.ended ≡ false
 
--- the sink failed at the report
+-- status 5, at the page: the sink failed at the report
 pub record IsReportCut (course : Course) (before after : Outside) : Type 0 where
   pub page : List ℕ
   pub page_is : HasBytes before.shelf course.page page
@@ -166,27 +148,13 @@ pub record IsReportCut (course : Course) (before after : Outside) : Type 0 where
   pub taken : (name : List ℕ) → course.page ≡ File name → SelectsNoOther name after.shelf
       × ((AreAllTaken page after.shelf × (length page ≤ 2 ^ 24)) ⊎ IsFrontCut course page before after)
 
--- status 5: the sink failed
-pub record EndsAtWriteFault (course : Course) (before after : Outside) : Type 0 where
-  -- the sink counted a fault
-  pub write_fault : Rose before.sink.faults after.sink.faults
-  pub cut : IsReportCut course before after ⊎ EndsAtScript course.script course.page before after statuses.WriteFault
-
--- status 6: there is no memory
-pub record EndsWithoutMemory (course : Course) (before after : Outside) : Type 0 where
-  -- what paints nothing takes none
-  pub memory : course.painting ≡ true
-  -- nothing was touched; or the script was being read
-  pub early : (after ≡ before) ⊎ EndsAtScript course.script course.page before after statuses.NoMemory
-
 -- status 7, at the page: it has more than 2^24 bytes, and more were taken
 pub record IsPageTooLong (course : Course) (before after : Outside) : Type 0 where
-  pub name : List ℕ
   pub too_long : 2 ^ 24 < after.shelf.taken
   pub selected : after.shelf.selected ≢ Some None
+  pub first : ReportsFirst course (2 ^ 24) before after
   -- so a page within the limit, that is told, never ends so
-  pub longer : (page : List ℕ) → Gives before.shelf name page → 2 ^ 24 < length page
-  pub first : ReportsFirst course name (2 ^ 24) before after
+  pub longer : (page : List ℕ) → Gives before.shelf first.name page → 2 ^ 24 < length page
   pub readable : course.readable_front first.front ≡ first.front
 
 -- a page can't be read to its end, or can't end there
@@ -195,14 +163,13 @@ IsUnreadable course page = (course.readable_front page ≢ page) ⊎ (course.can
 
 -- status 8: a byte of the page can't be read from seven bits, or the page can't end where it does
 pub record EndsNotSeven (course : Course) (before after : Outside) : Type 0 where
-  pub name : List ℕ
   -- the bytes of the page that were taken are reported, but 2^24 at most
-  pub first : ReportsFirst course name (min after.shelf.taken (2 ^ 24)) before after
+  pub first : ReportsFirst course (min after.shelf.taken (2 ^ 24)) before after
   -- one of these can't be read, or they are the whole page, which can't end there
   pub cause : (course.readable_front first.front ≢ first.front)
       ⊎ (AreAllTaken first.front after.shelf × (course.can_end first.front ≡ false))
   -- so a page that can be read, and is told, never ends so
-  pub unreadable : (page : List ℕ) → Gives before.shelf name page → IsUnreadable course page
+  pub unreadable : (page : List ℕ) → Gives before.shelf first.name page → IsUnreadable course page
 
 -- how a run ends, by its status
 abbrev pub Ends : Course → Outside → Outside → Status → Type 0
@@ -210,9 +177,15 @@ Ends course before after statuses.Done = EndsWhole course before after false
 Ends course before after statuses.Refusals = EndsWhole course before after true
 Ends course before after statuses.Usage = ⊥
 Ends course before after statuses.Script = EndsAtScript course.script course.page before after statuses.Script
-Ends course before after statuses.ReadFault = EndsAtReadFault course before after
-Ends course before after statuses.WriteFault = EndsAtWriteFault course before after
-Ends course before after statuses.NoMemory = EndsWithoutMemory course before after
+-- the shelf counted a fault, and no take had answered that there are no more bytes
+Ends course before after statuses.ReadFault = Rose before.shelf.faults after.shelf.faults × (after.shelf.ended ≡ false)
+    × (IsPageUnread course before after ⊎ EndsAtScript course.script course.page before after statuses.ReadFault)
+-- the sink counted a fault
+Ends course before after statuses.WriteFault = Rose before.sink.faults after.sink.faults
+    × (IsReportCut course before after ⊎ EndsAtScript course.script course.page before after statuses.WriteFault)
+-- what paints nothing takes no memory; nothing was touched, or the script was being read
+Ends course before after statuses.NoMemory = (course.painting ≡ true)
+    × ((after ≡ before) ⊎ EndsAtScript course.script course.page before after statuses.NoMemory)
 Ends course before after statuses.TooLong =
     IsPageTooLong course before after ⊎ EndsAtScript course.script course.page before after statuses.TooLong
 Ends course before after statuses.NotSeven = EndsNotSeven course before after
@@ -247,7 +220,7 @@ pub record ComesFirst (grammar : Grammar) (name : List ℕ) (page : Source) (bef
   -- where a line of it is outside the grammar, nothing is painted, and nothing put but the line that says so, or a front
   pub bad : (script : List ℕ) (fault : Fault) → Gives before.shelf name script
       → first_fault_in grammar script ≡ Some fault → (after.glass ≡ before.glass)
-      × (size : ℕ) × (after.sink.bytes ≡ append_known before.sink.bytes (take size (fault_text fault)))
+      × (size : ℕ) × (after.sink.bytes ≡ append_known before.sink.bytes (take size (script_fault_line fault.line fault.reason)))
 
 -- so does the script, where there is one
 abbrev pub IsScriptFirst : ScriptSource → Source → Outside → Outside → Status → Type 0
@@ -266,7 +239,8 @@ pub record RunsCourse (course : Course) (before after : Outside) (status : Statu
   -- what paints nothing doesn't touch the glass
   pub unpainted : course.painting ≡ false → after.glass ≡ before.glass
   -- no early end flushes, but that at a script's bad line: where bytes are put, no flush succeeds
-  pub unflushed : is_whole status ≡ false → status ≢ statuses.Script → HasPut before.sink after.sink
+  pub unflushed : status ≢ statuses.Done → status ≢ statuses.Refusals → status ≢ statuses.Script
+      → (part : List ℕ) × Gains before.sink part after.sink
   -- the sink keeps its room
   pub room : after.sink.room ≡ before.sink.room
   pub sink_faults : before.sink.faults ≤ after.sink.faults
@@ -297,7 +271,7 @@ pub record Runs (words : List (List ℕ)) (before after : Outside) (status : Sta
       → IsShortScript before.shelf (course_of request).script
       → (Rose before.shelf.faults after.shelf.faults → ⊥)
       → (Rose before.sink.faults after.sink.faults → ⊥)
-      → (is_whole status ≡ true) ⊎ (status ≡ statuses.Script)
+      → (status ≡ statuses.Done) ⊎ (status ≡ statuses.Refusals) ⊎ (status ≡ statuses.Script)
       ⊎ ((status ≡ statuses.NoMemory) × ((course_of request).painting ≡ true))
       ⊎ ((status ≡ statuses.NotSeven) × IsUnreadable (course_of request) page)
 

@@ -9,7 +9,7 @@ use Rattle.cept_run.specs.declared.page.Stop.TheVariants as stops
 use Rattle.cept_run.specs.Outside.{PutsWhole, PutsUnflushed}
 use Rattle.cept_run.specs.Course.{Gives, SelectsNoOther, Grammar, first_fault_in, ScriptFile, sequel_in}
 use Rattle.cept_run.specs.Events.{Sequel}
-use Rattle.cept_run.specs.Run.{fault_text}
+use Rattle.cept_report.specs.Text.{script_fault_line}
 use Rattle.cept_run.specs.Taking.{TakesWhole, TakesUnread, TakesTooMany}
 
 -- it is within the grammar, and says that this is done
@@ -26,7 +26,7 @@ pub record ScriptRefused (grammar : Grammar) (name : List ℕ) (before after : S
     pub takes : TakesWhole (Gives before name) (2 ^ 20) bytes before after
     pub fault : Fault
     pub found : first_fault_in grammar bytes ≡ Some fault
-    pub put : Put (fault_text fault)
+    pub put : Put (script_fault_line fault.line fault.reason)
 
 -- why the reading of a file stops
 abbrev pub ScriptStops : Grammar → List ℕ → ShelfState → SinkState → Stop → ShelfState → SinkState → Type 0

@@ -4,7 +4,7 @@ ghost use Rattle.std.specs.Prelude.{◌≡◌, ℕ, ◌+◌, ◌*◌, ◌^◌, �
 ghost use Rattle.std.specs.Prelude.{false, length, if◌then◌else◌, nat_lt};
 ghost use Rattle.cept_parser.specs.Items.{closed_items};
 ghost use Rattle.cept_outside.specs.SinkState.{PutsText};
-ghost use Rattle.cept_run.specs.Events.{text_at_end};
+ghost use Rattle.cept_run.specs.inside.Reporting.{text_at_end};
 ghost use Rattle.cept_editor.specs.Made.{Output, output_of};
 
 use crate::reporter::Reporter;

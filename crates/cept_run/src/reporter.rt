@@ -10,7 +10,7 @@ ghost use Rattle.cept_outside.specs.SinkState.{PutsText};
 ghost use Rattle.cept_listing.specs.Listing.{item_line};
 ghost use Rattle.cept_report.specs.Text.{refusal_line};
 ghost use Rattle.cept_profile.specs.State.{state};
-ghost use Rattle.cept_run.specs.Events.{counts_text, painted_end, text_at_end};
+ghost use Rattle.cept_run.specs.inside.Reporting.{counts_text, painted_end, text_at_end};
 ghost use Rattle.cept_editor.specs.Made.{output_of};
 
 use crate::edits::{draw, make_lines};

@@ -1,5 +1,5 @@
 ghost use Rattle.std.specs.Prelude.{◌≡◌, ◌≢◌, ◌^◌, ◌<◌, ◌≤◌, [], List, None, Some, ℕ};
-ghost use Rattle.std.specs.Prelude.{map, string_bytes, length};
+ghost use Rattle.std.specs.Prelude.{map, string_bytes, length, nat_lt};
 ghost use Rattle.cept_editor.specs.Made.{Output};
 ghost use Rattle.cept_generator.specs.Generated.{generated};
 ghost use Rattle.cept_outside.specs.Ledger.{IsBlankOf};
@@ -9,7 +9,8 @@ ghost use Rattle.cept_outside.specs.ShelfState.{ShelfState};
 ghost use Rattle.cept_parser.specs.Items.{closed_items};
 ghost use Rattle.cept_run.specs.Course.{File, Given, ScriptSource, NoScript, report_course};
 ghost use Rattle.cept_run.specs.Course.{course_of, sequel_in};
-ghost use Rattle.cept_run.specs.Events.{text_at_end, has_refusal, NoSequel};
+ghost use Rattle.cept_run.specs.Events.{refused_count, NoSequel};
+ghost use Rattle.cept_run.specs.inside.Reporting.{text_at_end};
 ghost use Rattle.cept_run.specs.Outside.{outside_of};
 ghost use Rattle.cept_run.specs.Page.{PutsEnd};
 ghost use Rattle.cept_run.specs.Reporting.{Plan, StandsAtEnd, HasRead, plan_in, sequel_of};
@@ -142,7 +143,7 @@ fn end_report<T: Sink, G: Glass>(
         → bytes ≡ length page
         → PutsEnd (text_at_end plan.options (G.state glass.now).grid page
         (remaining_at_end plan (closed_items page)))
-        (has_refusal (closed_items page)) (T.state sink.old) result (T.state sink.new) }
+        (nat_lt 0 (refused_count (closed_items page))) (T.state sink.old) result (T.state sink.new) }
 {
     decoder.put_end(bytes, blink, sink, glass)?;
     let Ok(()) = sink.flush() else {

@@ -1,12 +1,13 @@
 -- Bytes say the same with each C1 code in two bytes.
 use Rattle.std.proofs.Common.{◌≡◌, ℕ, zero, suc, ◌+◌, ◌-◌, ◌≤◌, true, false, eqb, List, [], ◌∷◌, ◌++◌}
-use Rattle.std.proofs.Common.{length, Option, Some, None, refl, sym, ap, ◌∙◌, subst, arith, inl, inr}
+use Rattle.std.proofs.Common.{length, map, cond, Option, Some, None, refl, sym, ap, ◌∙◌, subst, arith, inl, inr}
 use Rattle.std.proofs.lemmas.Bool.{cases_Bool, both_ways, eqb-true}
 use Rattle.std.proofs.lemmas.Bool.Decides.{nat_tests}
 use Rattle.std.proofs.lemmas.List.{append_assoc, append-nil, length-append, drop_at}
 use Rattle.std.proofs.lemmas.List.Concat.{flat_map-append}
 use Rattle.cept_codes.specs.declared.command.Command.TheVariants as command
 use Rattle.cept_codes.specs.declared.item.Reason.TheVariants.{Interrupted}
+use Rattle.cept_codes.specs.declared.item.Item.{Item}
 use Rattle.cept_codes.specs.declared.item.Said.{Said}
 use Rattle.cept_codes.specs.declared.item.Said.TheVariants.{Command as Says, Refused}
 use Rattle.cept_parser.specs.declared.context.Context.{Context}
@@ -15,18 +16,20 @@ use Rattle.cept_parser.specs.declared.context.Outcome.{Outcome}
 use Rattle.cept_parser.specs.Bytes.{is_plain, is_between, is_empty, begins_sequence, is_sequence}
 use Rattle.cept_parser.specs.Context.{start_context, with_mode}
 use Rattle.cept_parser.specs.Controls.{one_byte}
-use Rattle.cept_parser.specs.Escape.{escape, escape_1}
+use Rattle.cept_parser.specs.Escape.{escape}
 use Rattle.cept_parser.specs.declared.fit.Fit.TheVariants.{Open}
 use Rattle.cept_parser.specs.Fit.{fit}
 use Rattle.cept_parser.specs.inside.Waits.{outcome_at_misfit}
 use Rattle.cept_parser.specs.Grammar.{unit, fits, grows, escape_unit, begins_escape}
-use Rattle.cept_parser.specs.Items.{Front, front, front_of, waiting_reading}
-use Rattle.cept_parser.specs.Items.{closing_items, said_at_end}
+use Rattle.cept_parser.specs.Items.{Front, front, waiting_reading}
+use Rattle.cept_parser.proofs.LongestBeginningLemmas.{front_of}
+use Rattle.cept_parser.specs.Items.{closing_items}
+use Rattle.cept_parser.specs.inside.Waits.{said_at_end}
 use Rattle.cept_parser.specs.ReadsAs.{said_from, said_with_end}
 use Rattle.cept_parser.proofs.BreakerLemmas.{breaker_fails}
 use Rattle.cept_parser.proofs.EndedUnitLemmas.{said_ended, said_last, said_none}
 use Rattle.cept_parser.proofs.GrammarLemmas.{fits_one, fits_front}
-use Rattle.cept_parser.proofs.LongestBeginningLemmas.{front_ended, front_append_more}
+use Rattle.cept_parser.proofs.LongestBeginningLemmas.{closing_is, front_ended, front_append_more}
 use Rattle.cept_parser.proofs.OneByteMoreLemmas.{read_as_open}
 use Rattle.cept_parser.proofs.ReadingInPartsLemmas.{read_step}
 use Rattle.cept_seven.specs.Seven.{is_c1}
@@ -39,7 +42,7 @@ unfolding one_byte
 code_says a l m = grind (arith, nat_tests)
 
 pair_says : (f : ℕ) → 0x40 ≤ f → f ≤ 0x5F → eqb f 0x5B ≡ false → escape (f ∷ []) ≡ Says (command.C1 (f - 0x40))
-unfolding escape escape_1
+unfolding escape
 pair_says f l m e = grind (arith, nat_tests)
 
 pair_fits : (x : Context) (a : ℕ) (t : List ℕ) → 0x80 ≤ a → a ≤ 0x9F → eqb a 0x9B ≡ false
@@ -161,9 +164,9 @@ open_is x u h e = rw (h, e) refl
 
 waiting_says : (x : Context) (at : ℕ) (u : List ℕ) → is_empty u ≡ false
     → said_with_end (waiting_reading x at u) ≡ said_at_end (unit x u) ∷ []
-unfolding closing_items
-waiting_says x at [] n = absurd cc
-waiting_says x at (a ∷ u) n = refl
+waiting_says x at u n =
+    let item : Item = record { at = at; len = length u; what = said_at_end (unit x u) } in
+    ap (map (λ i. i.what)) (closing_is (waiting_reading x at u) ∙ ap (λ b. cond b [] (item ∷ [])) n)
 
 interrupted_front : (x : Context) (c : ℕ) (u : List ℕ) → fits x u ≡ true → unit x u ≡ None
     → fits x (u ++ c ∷ []) ≡ false

@@ -1,15 +1,14 @@
 -- The parts of a row, made one after the other from the left.
-use Rattle.std.proofs.Common.{◌≡◌, ℕ, ◌+◌, ◌-◌, ◌<◌, ◌≤◌, ◌==◌, ◌&&◌, not, nat_lt, Bool, cond, true, false, List}
+use Rattle.std.proofs.Common.{◌≡◌, ℕ, ◌+◌, ◌-◌, ◌<◌, ◌≤◌, ◌&&◌, not, nat_lt, Bool, true, false, List}
 use Rattle.std.proofs.Common.{length}
 use Rattle.std.proofs.Common.{get_or, set, refl, sym, ap, subst, ◌∙◌, suc, arith}
 use Rattle.std.proofs.lemmas.Bool.{cond-true, cond-false, false≢true, true≢false}
-use Rattle.std.proofs.lemmas.Bool.Decides.{nat_tests}
 use Rattle.std.proofs.lemmas.List.{get_or_default}
 use Rattle.cept_codes.specs.declared.attribute.Size.{Size}
 use Rattle.cept_codes.specs.declared.attribute.Size.TheVariants as sizes
 use Rattle.cept_codes.specs.declared.look.Part.{Part}
 use Rattle.cept_codes.specs.Table.{HasMadeEntries, entry, row_of}
-use Rattle.cept_codes.proofs.Laws.{HasMadeEntries-none, HasMadeEntries-more, HasMadeEntries-all, row_of-list_by_index}
+use Rattle.cept_codes.proofs.Laws.{HasMadeEntries-none, HasMadeEntries-more, HasMadeEntries-all, entry_from, row_of-list_by_index}
 use Rattle.cept_profile.specs.Tiling.{column_entry, flat_parts, covers_below, covers_right, is_covered_from_left}
 use Rattle.cept_profile.specs.Tiling.{is_high, is_wide, origin_part}
 use Rattle.cept_profile.specs.Tiling.{part_by, part_from, single_part, tiled_row}
@@ -18,9 +17,8 @@ use Rattle.cept_profile.specs.Tiling.{part_by, part_from, single_part, tiled_row
 pub column_entry-index : {X : Type 0} (d e : X) (row : List X) (k : ℕ) → k < length row
     → column_entry d row (k + 1) ≡ get_or row k e
 column_entry-index d e row k below =
-    let inside : ((k + 1) == 0) ≡ false = grind (arith, nat_tests) in
     let back : (k + 1) - 1 ≡ k = omega arith in
-    (λ i. cond (inside i) d (get_or row (back i) d)) ∙ get_or_default row k d e below
+    entry_from d 1 row (k + 1) (omega arith) ∙ (λ i. get_or row (back i) d) ∙ get_or_default row k d e below
 
 pub part_from-none : (above : ℕ → Part) (wanted : ℕ → Size) (last : Bool) → part_from above wanted last 0 ≡ single_part
 unfolding part_from

@@ -1,16 +1,13 @@
 -- The tiled row beneath valid parts is of valid parts, and in a tiled table it is the next row.
-use Rattle.std.proofs.Common.{◌≡◌, ℕ, ◌+◌, ◌-◌, ◌≤◌, ◌==◌, inl, inr, cond, zero, suc, Bool, true, false, List, sym}
+use Rattle.std.proofs.Common.{◌≡◌, ℕ, ◌+◌, ◌-◌, ◌≤◌, inl, inr, cond, zero, suc, Bool, true, false, List, sym}
 use Rattle.std.proofs.Common.{ap}
 use Rattle.std.proofs.Common.{subst, ◌∙◌, arith}
-use Rattle.std.proofs.Common.{get_or}
 use Rattle.std.proofs.lemmas.Bool.{cases_Bool, cond-true, cond-false}
-use Rattle.std.proofs.lemmas.Bool.Decides.{nat_tests}
 use Rattle.cept_codes.specs.declared.attribute.Size.{Size}
 use Rattle.cept_codes.specs.declared.look.Part.{Part}
 use Rattle.cept_codes.specs.Look.{IsValidPart}
 use Rattle.cept_codes.specs.Table.{entry, row_of}
 use Rattle.cept_codes.proofs.Laws.{entry-list_by_index, row_of-list_by_index}
-use Rattle.cept_codes.proofs.Laws.{entry_from}
 use Rattle.cept_profile.specs.Tiling.{IsTiled, column_entry, covers_below, is_covered_from_left, origin_part, part_by}
 use Rattle.cept_profile.specs.Tiling.{flat_parts, part_from, parts_in, single_part, tiled_row}
 use Rattle.cept_profile.proofs.Laws.{tiled_row-beneath}
@@ -19,9 +16,7 @@ use Rattle.cept_sizes.proofs.RowTiled.{part_from-none, part_from-more}
 
 column_entry-row_of : {X : Type 0} (d : X) (f : ℕ → X) (c : ℕ) → 1 ≤ c → c ≤ 40 → column_entry d (row_of f) c ≡ f c
 column_entry-row_of d f c low high =
-    let inside : (c == 0) ≡ false = grind (arith, nat_tests) in
-    cond-false (c == 0) d (get_or (row_of f) (c - 1) d) inside ∙ sym (entry_from d 1 (row_of f) c low)
-    ∙ ap (λ xs. entry d 1 xs c) (row_of-list_by_index f) ∙ entry-list_by_index d 1 40 f c low (omega arith)
+    ap (λ xs. entry d 1 xs c) (row_of-list_by_index f) ∙ entry-list_by_index d 1 40 f c low (omega arith)
 
 -- the sizes that are wanted in a row of a table, held in a list
 pub wanted_here : (d : Size) (sizes : List Size) (wanted : ℕ → Size) → sizes ≡ row_of wanted → (c : ℕ) → 1 ≤ c

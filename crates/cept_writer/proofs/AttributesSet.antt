@@ -1,5 +1,5 @@
 -- The commands of attributes: under the parallel set the pen takes them, and for a row or the screen each is a stroke.
-use Rattle.std.proofs.Common.{◌≡◌, ℕ, ◌+◌, ◌-◌, ◌*◌, ◌/◌, ◌%◌, ◌≤◌, ◌<◌, Bool, true, false, eqb, ltb}
+use Rattle.std.proofs.Common.{◌≡◌, ℕ, ◌+◌, ◌-◌, ◌*◌, ◌/◌, ◌%◌, ◌≤◌, ◌<◌, ◌||◌, Bool, true, false, cond, eqb, ltb}
 use Rattle.std.proofs.Common.{Option, None, Some, option_to_list, List, [], ◌∷◌, map, refl, ap, ◌∙◌, arith}
 use Rattle.std.specs.List.{AllByRecursion}
 use Rattle.std.proofs.lemmas.Bool.Decides.{nat_tests}
@@ -9,6 +9,8 @@ use Rattle.cept_codes.specs.declared.attribute.Flash.{Flash}
 use Rattle.cept_codes.specs.declared.attribute.Flash.TheVariants as flashes
 use Rattle.cept_codes.specs.declared.attribute.Pen.{Pen}
 use Rattle.cept_codes.specs.declared.attribute.Size.TheVariants as sizes
+use Rattle.cept_codes.specs.declared.cell.Marker.{Marker}
+use Rattle.cept_codes.specs.declared.cell.Marker.TheVariants as markers
 use Rattle.cept_codes.specs.declared.command.C1Set.TheVariants as c1sets
 use Rattle.cept_codes.specs.declared.command.Command.{Command}
 use Rattle.cept_codes.specs.declared.command.Command.TheVariants as commands
@@ -16,8 +18,9 @@ use Rattle.cept_codes.specs.declared.stroke.Stroke.{Stroke}
 use Rattle.cept_codes.specs.declared.stroke.Stroke.TheVariants as strokes
 use Rattle.cept_codes.specs.Attribute.{IsPlainFlash}
 use Rattle.cept_profile.specs.Control.{ControlState, control_after, control_with, initial_sets}
-use Rattle.cept_profile.specs.Pens.{attribute_of, fast_after, fast_after_code, pen_with, pen_with_any}
+use Rattle.cept_profile.specs.Pens.{c1_function, fast_after, pen_with}
 use Rattle.cept_profile.specs.Strokes.{strokes_of}
+use Rattle.cept_profile.proofs.Laws.{strokes_of_function, working_after_function}
 use Rattle.cept_writer.specs.AttributeCommands.{attribute_commands, attributes_commands}
 use Rattle.cept_writer.specs.AttributeCommands.{pen_with_all}
 use Rattle.cept_writer.proofs.Drawing.{Draws, draws_joined, draws_none, draws_one, draws_silent}
@@ -25,12 +28,13 @@ use Rattle.cept_writer.proofs.Resting.{Fixed, Hand, control_in_cell, control_at_
 
 -- ---- colours by their table and their code
 
-fore_code : (t n : ℕ) → n < 8 → attribute_of t n ≡ Some (attrs.Fore (8 * t + n))
+fore_code : (t n : ℕ) → n < 8 → c1_function t n ≡ Some (attrs.Fore (8 * t + n), markers.Alpha (8 * t + n))
 fore_code t n low =
     let is : ltb n 8 ≡ true = grind (arith, nat_tests) in
     rw is refl
 
-back_code : (t n : ℕ) → 16 ≤ n → n < 24 → attribute_of t n ≡ Some (attrs.Back (8 * t + (n - 16)))
+back_code : (t n : ℕ) → 16 ≤ n → n < 24
+    → c1_function t n ≡ Some (attrs.Back (8 * t + (n - 16)), markers.Mosaic (8 * t + (n - 16)))
 back_code t n low high =
     let a : ltb n 8 ≡ false = grind (arith, nat_tests) in
     let b : eqb n 8 ≡ false = grind (arith, nat_tests) in
@@ -44,16 +48,16 @@ back_code t n low high =
     let j : ltb n 24 ≡ true = grind (arith, nat_tests) in
     rw (a, b, c, d, e, f, g, h, i, j) refl
 
-fore_entry : (e : ℕ) → attribute_of (e / 8) (0 + e % 8) ≡ Some (attrs.Fore e)
+pub fore_entry : (e : ℕ) → c1_function (e / 8) (0 + e % 8) ≡ Some (attrs.Fore e, markers.Alpha e)
 fore_entry e =
     fore_code (e / 8) (0 + e % 8) (omega arith)
-    ∙ ap (λ (k : ℕ). let a : Option Attr = Some (attrs.Fore k) in a)
+    ∙ ap (λ (k : ℕ). let a : Option (Attr × Marker) = Some (attrs.Fore k, markers.Alpha k) in a)
     (let same : 8 * (e / 8) + (0 + e % 8) ≡ e = omega arith in same)
 
-back_entry : (e : ℕ) → attribute_of (e / 8) (16 + e % 8) ≡ Some (attrs.Back e)
+pub back_entry : (e : ℕ) → c1_function (e / 8) (16 + e % 8) ≡ Some (attrs.Back e, markers.Mosaic e)
 back_entry e =
     back_code (e / 8) (16 + e % 8) (omega arith) (omega arith)
-    ∙ ap (λ (k : ℕ). let a : Option Attr = Some (attrs.Back k) in a)
+    ∙ ap (λ (k : ℕ). let a : Option (Attr × Marker) = Some (attrs.Back k, markers.Mosaic k) in a)
     (let same : 8 * (e / 8) + (16 + e % 8 - 16) ≡ e = omega arith in same)
 
 -- ---- the pen
@@ -70,21 +74,23 @@ pub record Takes (fixed : Fixed) (protect : Bool) (v : Hand) (pen : Pen) (cs : L
       (control_in_cell fixed initial_sets None protect (record (hand_under_parallel v) { table = table; fast = fast; pen = pen }))
 
 module _ (fixed : Fixed) (protect : Bool) where
-  coded : (v : Hand) (n : ℕ) (attr : Attr) → attribute_of v.table n ≡ Some attr
+  coded : (v : Hand) (n : ℕ) (attr : Attr) (m : Marker) → c1_function v.table n ≡ Some (attr, m)
       → Takes fixed protect v (pen_with attr v.pen) (commands.C1 n ∷ [])
-  coded v n attr is =
+  coded v n attr m is =
       let s : ControlState = control_in_cell fixed initial_sets None protect (hand_under_parallel v) in
+      let fast : ℕ = cond (eqb n 8 || eqb n 9) 0 v.fast in
       record {
         table = v.table;
-        fast = fast_after_code n v.fast;
-        draws = draws_one _ _ (commands.C1 n) [] (ap (λ (o : Option Attr). control_with s
-            (record s.working { pen = pen_with_any o v.pen; fast = fast_after_code n v.fast })) is) refl;
+        fast = fast;
+        draws = draws_one _ _ (commands.C1 n) []
+            (ap (λ (o : Option (Attr × Marker)). control_with s (working_after_function c1sets.Parallel o fast s)) is)
+            (ap (λ (o : Option (Attr × Marker)). strokes_of_function c1sets.Parallel o fast s) is);
       }
 
-  coloured : (v : Hand) (t n : ℕ) (attr : Attr) → attribute_of t n ≡ Some attr
+  coloured : (v : Hand) (t n : ℕ) (attr : Attr) (m : Marker) → c1_function t n ≡ Some (attr, m)
       → Takes fixed protect v (pen_with attr v.pen) (commands.Table t ∷ commands.C1 n ∷ [])
-  coloured v t n attr is =
-      let there = coded (record v { table = t }) n attr is in
+  coloured v t n attr m is =
+      let there = coded (record v { table = t }) n attr m is in
       record {
         table = there.table;
         fast = there.fast;
@@ -105,28 +111,28 @@ module _ (fixed : Fixed) (protect : Bool) where
 
   attribute_takes : (v : Hand) (attr : Attr)
       → Takes fixed protect v (pen_with attr v.pen) (attribute_commands (λ n. commands.C1 n) attr)
-  attribute_takes v (attrs.Fore e) = coloured v (e / 8) (0 + e % 8) (attrs.Fore e) (fore_entry e)
-  attribute_takes v (attrs.Back e) = coloured v (e / 8) (16 + e % 8) (attrs.Back e) (back_entry e)
-  attribute_takes v attrs.NoBack = coded v 30 attrs.NoBack refl
-  attribute_takes v (attrs.Flash flashes.Plain) = coded v 8 (attrs.Flash flashes.Plain) refl
-  attribute_takes v (attrs.Flash flashes.Steady) = coded v 9 (attrs.Flash flashes.Steady) refl
+  attribute_takes v (attrs.Fore e) = coloured v (e / 8) (0 + e % 8) (attrs.Fore e) (markers.Alpha e) (fore_entry e)
+  attribute_takes v (attrs.Back e) = coloured v (e / 8) (16 + e % 8) (attrs.Back e) (markers.Mosaic e) (back_entry e)
+  attribute_takes v attrs.NoBack = coded v 30 attrs.NoBack markers.Hold refl
+  attribute_takes v (attrs.Flash flashes.Plain) = coded v 8 (attrs.Flash flashes.Plain) (markers.Flash flashes.Plain) refl
+  attribute_takes v (attrs.Flash flashes.Steady) = coded v 9 (attrs.Flash flashes.Steady) (markers.Flash flashes.Steady) refl
   attribute_takes v (attrs.Flash flashes.Inverted) = moded v 0 flashes.Inverted refl
   attribute_takes v (attrs.Flash flashes.Reduced) = moded v 1 flashes.Reduced refl
   attribute_takes v (attrs.Flash flashes.Fast1) = moded v 2 flashes.Fast1 refl
   attribute_takes v (attrs.Flash flashes.Fast2) = moded v 3 flashes.Fast2 refl
   attribute_takes v (attrs.Flash flashes.Fast3) = moded v 4 flashes.Fast3 refl
-  attribute_takes v (attrs.Conceal true) = coded v 24 (attrs.Conceal true) refl
-  attribute_takes v (attrs.Conceal false) = coded v 31 (attrs.Conceal false) refl
-  attribute_takes v (attrs.Lined true) = coded v 26 (attrs.Lined true) refl
-  attribute_takes v (attrs.Lined false) = coded v 25 (attrs.Lined false) refl
-  attribute_takes v (attrs.Boxed true) = coded v 11 (attrs.Boxed true) refl
-  attribute_takes v (attrs.Boxed false) = coded v 10 (attrs.Boxed false) refl
-  attribute_takes v (attrs.Size sizes.Normal) = coded v 12 (attrs.Size sizes.Normal) refl
-  attribute_takes v (attrs.Size sizes.High) = coded v 13 (attrs.Size sizes.High) refl
-  attribute_takes v (attrs.Size sizes.Wide) = coded v 14 (attrs.Size sizes.Wide) refl
-  attribute_takes v (attrs.Size sizes.Both) = coded v 15 (attrs.Size sizes.Both) refl
-  attribute_takes v (attrs.Invert true) = coded v 29 (attrs.Invert true) refl
-  attribute_takes v (attrs.Invert false) = coded v 28 (attrs.Invert false) refl
+  attribute_takes v (attrs.Conceal true) = coded v 24 (attrs.Conceal true) (markers.Conceal true) refl
+  attribute_takes v (attrs.Conceal false) = coded v 31 (attrs.Conceal false) markers.Release refl
+  attribute_takes v (attrs.Lined true) = coded v 26 (attrs.Lined true) (markers.Lined true) refl
+  attribute_takes v (attrs.Lined false) = coded v 25 (attrs.Lined false) (markers.Lined false) refl
+  attribute_takes v (attrs.Boxed true) = coded v 11 (attrs.Boxed true) (markers.Boxed true) refl
+  attribute_takes v (attrs.Boxed false) = coded v 10 (attrs.Boxed false) (markers.Boxed false) refl
+  attribute_takes v (attrs.Size sizes.Normal) = coded v 12 (attrs.Size sizes.Normal) (markers.Size sizes.Normal) refl
+  attribute_takes v (attrs.Size sizes.High) = coded v 13 (attrs.Size sizes.High) (markers.Size sizes.High) refl
+  attribute_takes v (attrs.Size sizes.Wide) = coded v 14 (attrs.Size sizes.Wide) (markers.Size sizes.Wide) refl
+  attribute_takes v (attrs.Size sizes.Both) = coded v 15 (attrs.Size sizes.Both) (markers.Size sizes.Both) refl
+  attribute_takes v (attrs.Invert true) = coded v 29 (attrs.Invert true) markers.NewBack refl
+  attribute_takes v (attrs.Invert false) = coded v 28 (attrs.Invert false) markers.BlackBack refl
 
   pub attributes_take : (v : Hand) (list : List Attr)
       → Takes fixed protect v (pen_with_all list v.pen) (attributes_commands (λ n. commands.C1 n) list)
@@ -157,19 +163,19 @@ pub record Strikes (fixed : Fixed) (v : Hand) (made : List Stroke) (cs : List Co
 module _ (fixed : Fixed) (code : ℕ → Command) (made : ℕ → Attr → Stroke)
     (keeps : (v : Hand) (n : ℕ) → control_after (control_at_rest fixed v) (code n) ≡ control_at_rest fixed v)
     (strikes : (v : Hand) (n : ℕ) → strokes_of (control_at_rest fixed v) (code n)
-    ≡ map (made v.row) (option_to_list (attribute_of v.table n))) where
-  struck : (v : Hand) (n : ℕ) (attr : Attr) → attribute_of v.table n ≡ Some attr
+    ≡ map (λ f. made v.row f.0) (option_to_list (c1_function v.table n))) where
+  struck : (v : Hand) (n : ℕ) (attr : Attr) (m : Marker) → c1_function v.table n ≡ Some (attr, m)
       → Strikes fixed v (made v.row attr ∷ []) (code n ∷ [])
-  struck v n attr is = record {
+  struck v n attr m is = record {
     table = v.table;
     draws = draws_one _ _ (code n) _ (keeps v n)
-        (strikes v n ∙ ap (λ (o : Option Attr). map (made v.row) (option_to_list o)) is);
+        (strikes v n ∙ ap (λ (o : Option (Attr × Marker)). map (λ f. made v.row f.0) (option_to_list o)) is);
   }
 
-  struck_colour : (v : Hand) (t n : ℕ) (attr : Attr) → attribute_of t n ≡ Some attr
+  struck_colour : (v : Hand) (t n : ℕ) (attr : Attr) (m : Marker) → c1_function t n ≡ Some (attr, m)
       → Strikes fixed v (made v.row attr ∷ []) (commands.Table t ∷ code n ∷ [])
-  struck_colour v t n attr is =
-      let there = struck (record v { table = t }) n attr is in
+  struck_colour v t n attr m is =
+      let there = struck (record v { table = t }) n attr m is in
       record {
         table = there.table;
         draws = draws_silent _ (control_at_rest fixed (record v { table = t })) _ (commands.Table t) _ _ refl refl there.draws;
@@ -177,28 +183,28 @@ module _ (fixed : Fixed) (code : ℕ → Command) (made : ℕ → Attr → Strok
 
   attribute_strikes : (v : Hand) (attr : Attr) → HasCode attr
       → Strikes fixed v (made v.row attr ∷ []) (attribute_commands code attr)
-  attribute_strikes v (attrs.Fore e) has = struck_colour v (e / 8) (0 + e % 8) (attrs.Fore e) (fore_entry e)
-  attribute_strikes v (attrs.Back e) has = struck_colour v (e / 8) (16 + e % 8) (attrs.Back e) (back_entry e)
-  attribute_strikes v attrs.NoBack has = struck v 30 attrs.NoBack refl
-  attribute_strikes v (attrs.Flash flashes.Plain) has = struck v 8 (attrs.Flash flashes.Plain) refl
-  attribute_strikes v (attrs.Flash flashes.Steady) has = struck v 9 (attrs.Flash flashes.Steady) refl
+  attribute_strikes v (attrs.Fore e) has = struck_colour v (e / 8) (0 + e % 8) (attrs.Fore e) (markers.Alpha e) (fore_entry e)
+  attribute_strikes v (attrs.Back e) has = struck_colour v (e / 8) (16 + e % 8) (attrs.Back e) (markers.Mosaic e) (back_entry e)
+  attribute_strikes v attrs.NoBack has = struck v 30 attrs.NoBack markers.Hold refl
+  attribute_strikes v (attrs.Flash flashes.Plain) has = struck v 8 (attrs.Flash flashes.Plain) (markers.Flash flashes.Plain) refl
+  attribute_strikes v (attrs.Flash flashes.Steady) has = struck v 9 (attrs.Flash flashes.Steady) (markers.Flash flashes.Steady) refl
   attribute_strikes v (attrs.Flash flashes.Inverted) has = elim has [ ]
   attribute_strikes v (attrs.Flash flashes.Reduced) has = elim has [ ]
   attribute_strikes v (attrs.Flash flashes.Fast1) has = elim has [ ]
   attribute_strikes v (attrs.Flash flashes.Fast2) has = elim has [ ]
   attribute_strikes v (attrs.Flash flashes.Fast3) has = elim has [ ]
-  attribute_strikes v (attrs.Conceal true) has = struck v 24 (attrs.Conceal true) refl
-  attribute_strikes v (attrs.Conceal false) has = struck v 31 (attrs.Conceal false) refl
-  attribute_strikes v (attrs.Lined true) has = struck v 26 (attrs.Lined true) refl
-  attribute_strikes v (attrs.Lined false) has = struck v 25 (attrs.Lined false) refl
-  attribute_strikes v (attrs.Boxed true) has = struck v 11 (attrs.Boxed true) refl
-  attribute_strikes v (attrs.Boxed false) has = struck v 10 (attrs.Boxed false) refl
-  attribute_strikes v (attrs.Size sizes.Normal) has = struck v 12 (attrs.Size sizes.Normal) refl
-  attribute_strikes v (attrs.Size sizes.High) has = struck v 13 (attrs.Size sizes.High) refl
-  attribute_strikes v (attrs.Size sizes.Wide) has = struck v 14 (attrs.Size sizes.Wide) refl
-  attribute_strikes v (attrs.Size sizes.Both) has = struck v 15 (attrs.Size sizes.Both) refl
-  attribute_strikes v (attrs.Invert true) has = struck v 29 (attrs.Invert true) refl
-  attribute_strikes v (attrs.Invert false) has = struck v 28 (attrs.Invert false) refl
+  attribute_strikes v (attrs.Conceal true) has = struck v 24 (attrs.Conceal true) (markers.Conceal true) refl
+  attribute_strikes v (attrs.Conceal false) has = struck v 31 (attrs.Conceal false) markers.Release refl
+  attribute_strikes v (attrs.Lined true) has = struck v 26 (attrs.Lined true) (markers.Lined true) refl
+  attribute_strikes v (attrs.Lined false) has = struck v 25 (attrs.Lined false) (markers.Lined false) refl
+  attribute_strikes v (attrs.Boxed true) has = struck v 11 (attrs.Boxed true) (markers.Boxed true) refl
+  attribute_strikes v (attrs.Boxed false) has = struck v 10 (attrs.Boxed false) (markers.Boxed false) refl
+  attribute_strikes v (attrs.Size sizes.Normal) has = struck v 12 (attrs.Size sizes.Normal) (markers.Size sizes.Normal) refl
+  attribute_strikes v (attrs.Size sizes.High) has = struck v 13 (attrs.Size sizes.High) (markers.Size sizes.High) refl
+  attribute_strikes v (attrs.Size sizes.Wide) has = struck v 14 (attrs.Size sizes.Wide) (markers.Size sizes.Wide) refl
+  attribute_strikes v (attrs.Size sizes.Both) has = struck v 15 (attrs.Size sizes.Both) (markers.Size sizes.Both) refl
+  attribute_strikes v (attrs.Invert true) has = struck v 29 (attrs.Invert true) markers.NewBack refl
+  attribute_strikes v (attrs.Invert false) has = struck v 28 (attrs.Invert false) markers.BlackBack refl
 
   pub attributes_strike : (v : Hand) (list : List Attr) → AllByRecursion HasCode list
       → Strikes fixed v (map (made v.row) list) (attributes_commands code list)

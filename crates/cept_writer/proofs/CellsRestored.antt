@@ -12,7 +12,8 @@ use Rattle.cept_codes.specs.Cell.{blank_cell}
 use Rattle.cept_codes.specs.Place.{OnScreen, Place, number, place_of}
 use Rattle.cept_codes.specs.Table.{value_at}
 use Rattle.cept_codes.proofs.Laws.{number-place_of, place_of-number, number-lt}
-use Rattle.cept_profile.specs.Cells.{cell_after, cell_back, is_at}
+use Rattle.cept_profile.specs.Cells.{cell_after, is_at}
+use Rattle.cept_profile.specs.PageParts.{left_by}
 use Rattle.cept_writer.specs.PageCommands.{cell_numbered}
 use Rattle.cept_writer.proofs.CellsWritten.{cell_strokes, puts_below}
 use Rattle.cept_writer.proofs.StrokesByPart.{AllOf, IsWritten, KeepsValue, IsKeptByOthers, all_range, value_after, kind_of, only_one}
@@ -22,9 +23,12 @@ use Rattle.cept_writer.proofs.StrokesByPart.Kind.{Cells}
 abbrev pub cell_step : ℕ → ℕ → Stroke → Cell → Cell
 cell_step r c s x = cell_after s (λ _ _. x) r c
 
+-- the cell of a place after the strokes, the last first
+abbrev pub cell_back : List Stroke → ℕ → ℕ → Cell
+cell_back strokes = left_by cell_after (λ r c. blank_cell) strokes
+
 pub cell_more : (r c : ℕ) (s : Stroke) (earlier : List Stroke) → IsWritten s
     → cell_back (s ∷ earlier) r c ≡ cell_step r c s (cell_back earlier r c)
-unfolding cell_back
 cell_more r c (strokes.Shift first last way) earlier written = elim (written refl) [ ]
 cell_more r c (strokes.Carry first last way) earlier written = elim (written refl) [ ]
 cell_more r c _ earlier written = refl

@@ -1,8 +1,9 @@
 -- The commands of a marker leave it once.
-use Rattle.std.proofs.Common.{◌≡◌, ℕ, ◌+◌, ◌-◌, ◌*◌, ◌/◌, ◌%◌, ◌≤◌, ◌<◌, Bool, true, false, eqb, leb, ltb}
-use Rattle.std.proofs.Common.{Option, None, Some, List, [], ◌∷◌, refl, ap, ◌∙◌, arith}
+use Rattle.std.proofs.Common.{◌≡◌, ℕ, ◌+◌, ◌/◌, ◌%◌, ◌≤◌, ◌||◌, Bool, true, false, cond, eqb, leb}
+use Rattle.std.proofs.Common.{Option, None, Some, List, [], ◌∷◌, refl, ap, ◌∙◌}
 use Rattle.std.proofs.lemmas.Bool.{le-leb}
-use Rattle.std.proofs.lemmas.Bool.Decides.{nat_tests}
+use Rattle.cept_codes.specs.declared.attribute.Attr.{Attr}
+use Rattle.cept_codes.specs.declared.attribute.Attr.TheVariants as attrs
 use Rattle.cept_codes.specs.declared.attribute.Flash.{Flash}
 use Rattle.cept_codes.specs.declared.attribute.Flash.TheVariants as flashes
 use Rattle.cept_codes.specs.declared.attribute.Size.TheVariants as sizes
@@ -15,10 +16,12 @@ use Rattle.cept_codes.specs.declared.command.Command.TheVariants as commands
 use Rattle.cept_codes.specs.declared.stroke.Stroke.{Stroke}
 use Rattle.cept_codes.specs.declared.stroke.Stroke.TheVariants as strokes
 use Rattle.cept_profile.specs.Control.{ControlState, Working, control_with, initial_sets}
-use Rattle.cept_profile.specs.Markers.{marker_of, run_after, step_after, strokes_of_marker, working_after_marker}
-use Rattle.cept_profile.specs.Pens.{attribute_of, fast_after, fast_after_code, flash_of, strokes_of_function}
-use Rattle.cept_profile.specs.Pens.{working_after_function}
+use Rattle.cept_profile.specs.Markers.{run_after, step_after}
+use Rattle.cept_profile.specs.Pens.{c1_function, fast_after, flash_of}
+use Rattle.cept_profile.proofs.Laws.{strokes_of_function, strokes_of_marker, working_after_function}
+use Rattle.cept_profile.proofs.Laws.{working_after_marker}
 use Rattle.cept_writer.specs.CellCommands.{marker_commands}
+use Rattle.cept_writer.proofs.AttributesSet.{back_entry, fore_entry}
 use Rattle.cept_writer.proofs.Drawing.{Draws, draws_one, draws_silent}
 use Rattle.cept_writer.proofs.Resting.{Fixed, Hand, hand_ahead, control_in_cell, moves_on, stays}
 
@@ -39,38 +42,6 @@ pub record Leaves (fixed : Fixed) (protect : Bool) (v : Hand) (m : Marker) (cs :
   pub run : hand.run ≡ run_after m v.run
   pub step : hand.step ≡ step_after m v.step
 
--- ---- colours by their table and their code
-
-alpha_code : (t n : ℕ) → n < 8 → marker_of t n ≡ Some (markers.Alpha (8 * t + n))
-alpha_code t n low =
-    let is : ltb n 8 ≡ true = grind (arith, nat_tests) in
-    rw is refl
-
-mosaic_code : (t n : ℕ) → 16 ≤ n → n < 24 → marker_of t n ≡ Some (markers.Mosaic (8 * t + (n - 16)))
-mosaic_code t n low high =
-    let a : ltb n 8 ≡ false = grind (arith, nat_tests) in
-    let b : eqb n 8 ≡ false = grind (arith, nat_tests) in
-    let c : eqb n 9 ≡ false = grind (arith, nat_tests) in
-    let d : eqb n 10 ≡ false = grind (arith, nat_tests) in
-    let e : eqb n 11 ≡ false = grind (arith, nat_tests) in
-    let f : eqb n 12 ≡ false = grind (arith, nat_tests) in
-    let g : eqb n 13 ≡ false = grind (arith, nat_tests) in
-    let h : eqb n 14 ≡ false = grind (arith, nat_tests) in
-    let i : eqb n 15 ≡ false = grind (arith, nat_tests) in
-    let j : ltb n 24 ≡ true = grind (arith, nat_tests) in
-    rw (a, b, c, d, e, f, g, h, i, j) refl
-
-alpha_entry : (e : ℕ) → marker_of (e / 8) (0 + e % 8) ≡ Some (markers.Alpha e)
-alpha_entry e =
-    alpha_code (e / 8) (0 + e % 8) (omega arith)
-    ∙ ap (λ (k : ℕ). let m : Option Marker = Some (markers.Alpha k) in m) (let same : 8 * (e / 8) + (0 + e % 8) ≡ e = omega arith in same)
-
-mosaic_entry : (e : ℕ) → marker_of (e / 8) (16 + e % 8) ≡ Some (markers.Mosaic e)
-mosaic_entry e =
-    mosaic_code (e / 8) (16 + e % 8) (omega arith) (omega arith)
-    ∙ ap (λ (k : ℕ). let m : Option Marker = Some (markers.Mosaic k) in m)
-    (let same : 8 * (e / 8) + (16 + e % 8 - 16) ≡ e = omega arith in same)
-
 -- ---- one marker
 
 module _ (fixed : Fixed) (protect : Bool) where
@@ -84,24 +55,24 @@ module _ (fixed : Fixed) (protect : Bool) where
   on_by_one v within = let is : leb (v.column + 1) 40 ≡ true = le-leb (v.column + 1) 40 within in rw is refl
 
   -- a code that leaves it
-  coded : (v : Hand) (n : ℕ) (m : Marker) → marker_of v.table n ≡ Some m
+  coded : (v : Hand) (n : ℕ) (attr : Attr) (m : Marker) → c1_function v.table n ≡ Some (attr, m)
       → Leaves fixed protect v m (commands.C1 n ∷ [])
   unfolding hand_ahead
-  coded v n m is =
+  coded v n attr m is =
       let s : ControlState = control_in_cell fixed initial_sets None protect (hand_under_serial v) in
+      let fast : ℕ = cond (eqb n 8 || eqb n 9) 0 v.fast in
       record {
         hand = record (hand_ahead fixed (hand_under_serial v) 1) {
           run = run_after m v.run;
           step = step_after m v.step;
-          fast = fast_after_code n v.fast;
+          fast = fast;
         };
         draws = draws_one _ _ (commands.C1 n) _
-            (ap (λ (o : Option Marker). control_with s
-            (working_after_function c1sets.Serial (attribute_of v.table n) o (fast_after_code n v.fast) s)) is
+            (ap (λ (o : Option (Attr × Marker)). control_with s (working_after_function c1sets.Serial o fast s)) is
             ∙ ap (λ (w : Working). control_with s (record w
-            { run = run_after m v.run; step = step_after m v.step; fast = fast_after_code n v.fast }))
+            { run = run_after m v.run; step = step_after m v.step; fast = fast }))
             (moves_on fixed initial_sets None protect (hand_under_serial v) 1))
-            (ap (λ (o : Option Marker). strokes_of_function c1sets.Serial o s) is
+            (ap (λ (o : Option (Attr × Marker)). strokes_of_function c1sets.Serial o fast s) is
             ∙ ap (λ (more : List Stroke). strokes.Put (record { row = v.row; column = v.column })
             (record { what = whats.Marker m; protected = protect }) ∷ more)
             (stays fixed initial_sets None protect (hand_under_serial v) 1));
@@ -114,10 +85,10 @@ module _ (fixed : Fixed) (protect : Bool) where
       }
 
   -- a colour by its table
-  coloured : (v : Hand) (t n : ℕ) (m : Marker) → marker_of t n ≡ Some m
+  coloured : (v : Hand) (t n : ℕ) (attr : Attr) (m : Marker) → c1_function t n ≡ Some (attr, m)
       → Leaves fixed protect v m (commands.Table t ∷ commands.C1 n ∷ [])
-  coloured v t n m is =
-      let there = coded (record v { table = t }) n m is in
+  coloured v t n attr m is =
+      let there = coded (record v { table = t }) n attr m is in
       record {
         hand = there.hand;
         draws = draws_silent _ (control_in_cell fixed initial_sets None protect (hand_under_serial (record v { table = t }))) _
@@ -177,26 +148,26 @@ module _ (fixed : Fixed) (protect : Bool) where
       }
 
   pub marker_leaves : (v : Hand) (m : Marker) → Leaves fixed protect v m (marker_commands m)
-  marker_leaves v (markers.Alpha e) = coloured v (e / 8) (0 + e % 8) (markers.Alpha e) (alpha_entry e)
-  marker_leaves v (markers.Mosaic e) = coloured v (e / 8) (16 + e % 8) (markers.Mosaic e) (mosaic_entry e)
-  marker_leaves v markers.BlackBack = coded v 28 markers.BlackBack refl
-  marker_leaves v markers.NewBack = coded v 29 markers.NewBack refl
-  marker_leaves v markers.Hold = coded v 30 markers.Hold refl
-  marker_leaves v markers.Release = coded v 31 markers.Release refl
-  marker_leaves v (markers.Flash flashes.Plain) = coded v 8 (markers.Flash flashes.Plain) refl
-  marker_leaves v (markers.Flash flashes.Steady) = coded v 9 (markers.Flash flashes.Steady) refl
+  marker_leaves v (markers.Alpha e) = coloured v (e / 8) (0 + e % 8) (attrs.Fore e) (markers.Alpha e) (fore_entry e)
+  marker_leaves v (markers.Mosaic e) = coloured v (e / 8) (16 + e % 8) (attrs.Back e) (markers.Mosaic e) (back_entry e)
+  marker_leaves v markers.BlackBack = coded v 28 (attrs.Invert false) markers.BlackBack refl
+  marker_leaves v markers.NewBack = coded v 29 (attrs.Invert true) markers.NewBack refl
+  marker_leaves v markers.Hold = coded v 30 attrs.NoBack markers.Hold refl
+  marker_leaves v markers.Release = coded v 31 (attrs.Conceal false) markers.Release refl
+  marker_leaves v (markers.Flash flashes.Plain) = coded v 8 (attrs.Flash flashes.Plain) (markers.Flash flashes.Plain) refl
+  marker_leaves v (markers.Flash flashes.Steady) = coded v 9 (attrs.Flash flashes.Steady) (markers.Flash flashes.Steady) refl
   marker_leaves v (markers.Flash flashes.Inverted) = moded v 0 flashes.Inverted refl
   marker_leaves v (markers.Flash flashes.Reduced) = moded v 1 flashes.Reduced refl
   marker_leaves v (markers.Flash flashes.Fast1) = moded v 2 flashes.Fast1 refl
   marker_leaves v (markers.Flash flashes.Fast2) = moded v 3 flashes.Fast2 refl
   marker_leaves v (markers.Flash flashes.Fast3) = moded v 4 flashes.Fast3 refl
-  marker_leaves v (markers.Conceal true) = coded v 24 (markers.Conceal true) refl
+  marker_leaves v (markers.Conceal true) = coded v 24 (attrs.Conceal true) (markers.Conceal true) refl
   marker_leaves v (markers.Conceal false) = revealed v
-  marker_leaves v (markers.Lined true) = coded v 26 (markers.Lined true) refl
-  marker_leaves v (markers.Lined false) = coded v 25 (markers.Lined false) refl
-  marker_leaves v (markers.Boxed true) = coded v 11 (markers.Boxed true) refl
-  marker_leaves v (markers.Boxed false) = coded v 10 (markers.Boxed false) refl
-  marker_leaves v (markers.Size sizes.Normal) = coded v 12 (markers.Size sizes.Normal) refl
-  marker_leaves v (markers.Size sizes.High) = coded v 13 (markers.Size sizes.High) refl
-  marker_leaves v (markers.Size sizes.Wide) = coded v 14 (markers.Size sizes.Wide) refl
-  marker_leaves v (markers.Size sizes.Both) = coded v 15 (markers.Size sizes.Both) refl
+  marker_leaves v (markers.Lined true) = coded v 26 (attrs.Lined true) (markers.Lined true) refl
+  marker_leaves v (markers.Lined false) = coded v 25 (attrs.Lined false) (markers.Lined false) refl
+  marker_leaves v (markers.Boxed true) = coded v 11 (attrs.Boxed true) (markers.Boxed true) refl
+  marker_leaves v (markers.Boxed false) = coded v 10 (attrs.Boxed false) (markers.Boxed false) refl
+  marker_leaves v (markers.Size sizes.Normal) = coded v 12 (attrs.Size sizes.Normal) (markers.Size sizes.Normal) refl
+  marker_leaves v (markers.Size sizes.High) = coded v 13 (attrs.Size sizes.High) (markers.Size sizes.High) refl
+  marker_leaves v (markers.Size sizes.Wide) = coded v 14 (attrs.Size sizes.Wide) (markers.Size sizes.Wide) refl
+  marker_leaves v (markers.Size sizes.Both) = coded v 15 (attrs.Size sizes.Both) (markers.Size sizes.Both) refl

@@ -12,15 +12,12 @@ use Rattle.cept_codes.specs.Place.{OnScreen}
 use Rattle.cept_codes.specs.Same.{same_paint}
 use Rattle.cept_codes.specs.Table.{value_at}
 use Rattle.cept_codes.proofs.Laws.{list_by_index-entry, same_indexed, same_table, table-value_at}
-use Rattle.cept_profile.specs.Cells.{cell_back}
 use Rattle.cept_profile.specs.Control.{control}
-use Rattle.cept_profile.specs.PageParts.{dclut_back, paint_back}
-use Rattle.cept_profile.specs.PageParts.{dclut_in, paint_in, pattern_back, pattern_in, row_pen_back, row_pen_in}
-use Rattle.cept_profile.specs.PageParts.{screen_pen_back}
+use Rattle.cept_profile.specs.PageParts.{dclut_in, paint_in, pattern_in, row_pen_in}
 use Rattle.cept_profile.specs.Colours.{default_paint}
-use Rattle.cept_profile.specs.State.{Core, core_of, page, page_back, state}
+use Rattle.cept_profile.specs.State.{Core, core_of, page_back, state}
 use Rattle.cept_profile.specs.Valid.{IsValidCore}
-use Rattle.cept_writer.proofs.CellsRestored.{cell_left, cell_more, cell_step, cells_made, puts_cell}
+use Rattle.cept_writer.proofs.CellsRestored.{cell_back, cell_left, cell_more, cell_step, cells_made, puts_cell}
 use Rattle.cept_writer.proofs.CellsWritten.{puts_below}
 use Rattle.cept_writer.proofs.Drawing.{control_of_drawn, strokes_of_drawn}
 use Rattle.cept_writer.proofs.PageDrawn.{PageDraws, dclut_strokes, entries_strokes, first_strokes, page_strokes}
@@ -29,7 +26,7 @@ use Rattle.cept_writer.proofs.PartsRestored.{dclut_left, dclut_made, dclut_more,
 use Rattle.cept_writer.proofs.PartsRestored.{entries_made, paint_left, paint_more, paint_step, pattern_left, pattern_more}
 use Rattle.cept_writer.proofs.PartsRestored.{pattern_step, patterns_made, patterns_pattern, row_left, row_more, row_step}
 use Rattle.cept_writer.proofs.PartsRestored.{rows_made, rows_row, screen_attributes, screen_left, screen_made, screen_more}
-use Rattle.cept_writer.proofs.PartsRestored.{screen_step}
+use Rattle.cept_writer.proofs.PartsRestored.{screen_step, paint_back, dclut_back, pattern_back, row_pen_back, screen_pen_back}
 use Rattle.cept_writer.specs.AttributeCommands.{attributes_of}
 use Rattle.cept_writer.proofs.StrokesByPart.{IsWritten, Pieces, folded_from_none, of_cells, of_colours, of_names}
 use Rattle.cept_writer.proofs.StrokesByPart.{of_patterns, of_rows, of_screen, strokes_together, together_written}
@@ -116,7 +113,6 @@ row_is k r low high =
 
 cell_is : (k : Core) → IsValidCore k → (r c : ℕ) → OnScreen r c
     → cell_back (reverse (all_strokes k)) r c ≡ value_at blank_cell k.page.cells r c
-unfolding cell_back
 cell_is k is r c on =
     folded_from_none (λ list. cell_back list r c) (cell_step r c) IsWritten (cell_more r c) (all_strokes k) (written k)
     ∙ of_cells (cell_step r c) (pieces k) blank_cell (cell_left r c)
@@ -143,7 +139,7 @@ drawn_page decides k is i =
     }
 
 restored_page : ((a b : Paint) → IsTrue (same_paint a b) ↔ (a ≡ b)) → (k : Core) → IsValidCore k → (cs : List Command)
-    → PageDraws k cs → page cs ≡ k.page
+    → PageDraws k cs → (state cs).page ≡ k.page
 restored_page decides k is cs there =
     ap page_back (strokes_of_drawn cs (page_strokes k) (control_with_settings k there.hand) there.draws
     ∙ ap reverse (strokes_are k))

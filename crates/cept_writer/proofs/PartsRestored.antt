@@ -1,11 +1,10 @@
 -- The strokes of a written page make each part of the page what it is in the core: colours, DCLUT, patterns and
 -- attributes.
-use Rattle.std.proofs.Common.{◌≡◌, ℕ, zero, suc, ◌+◌, ◌≤◌, ◌<◌, Bool, true, false, cond, eqb, unwrap_or, Option, None, Some}
+use Rattle.std.proofs.Common.{◌≡◌, ℕ, zero, suc, ◌+◌, ◌≤◌, ◌<◌, Bool, true, false, cond, eqb, Option, None, Some}
 use Rattle.std.proofs.Common.{List, [], ◌∷◌, map, refl, sym, ap, ◌∙◌, inl, inr, arith}
 use Rattle.std.specs.Prelude.{IsTrue, ◌↔◌}
 use Rattle.std.proofs.lemmas.Bool.Decides.{nat_tests}
 use Rattle.cept_codes.specs.declared.attribute.Attr.{Attr}
-use Rattle.cept_codes.specs.declared.attribute.Attr.TheVariants as attrs
 use Rattle.cept_codes.specs.declared.attribute.Pen.{Pen}
 use Rattle.cept_codes.specs.declared.look.Paint.{Paint}
 use Rattle.cept_codes.specs.declared.look.Paint.TheVariants as paints
@@ -16,9 +15,8 @@ use Rattle.cept_codes.specs.Attribute.{unset_pen}
 use Rattle.cept_codes.specs.Same.{same_paint}
 use Rattle.cept_codes.specs.Stroke.{IsPaintOf}
 use Rattle.cept_profile.specs.Colours.{default_paint, default_paints}
-use Rattle.cept_profile.specs.PageParts.{dclut_after, dclut_back, dclut_in, paint_after, paint_back, paint_in, pattern_after}
-use Rattle.cept_profile.specs.PageParts.{pattern_back, pattern_in, row_pen_after, row_pen_back, row_pen_in, screen_pen_after}
-use Rattle.cept_profile.specs.PageParts.{screen_pen_back}
+use Rattle.cept_profile.specs.PageParts.{left_by, paint_after, paint_in, dclut_after, dclut_in, pattern_after, pattern_in}
+use Rattle.cept_profile.specs.PageParts.{row_pen_after, row_pen_in, screen_pen_after}
 use Rattle.cept_profile.specs.Pens.{pen_with}
 use Rattle.cept_writer.specs.AttributeCommands.{attributes_of, pen_with_all}
 use Rattle.cept_writer.specs.PageCommands.{is_default_dclut}
@@ -31,16 +29,17 @@ use Rattle.cept_writer.proofs.StrokesByPart.Kind.{Colours, Names, Patterns, Rows
 
 -- ---- colour entries
 
+-- the paint of the colour entry i after the strokes, the last first
+abbrev pub paint_back : List Stroke → ℕ → Paint
+paint_back strokes = left_by paint_after default_paint strokes
+
 abbrev pub paint_step : ℕ → Stroke → Paint → Paint
 paint_step i s x = paint_after s (λ _. x) i
 
-said-cond : {X : Type 0} (counts : Bool) (x was : X) → unwrap_or (cond counts (Some x) None) was ≡ cond counts x was
-said-cond true x was = refl
-said-cond false x was = refl
-
 pub paint_more : (i : ℕ) (s : Stroke) (earlier : List Stroke)
     → paint_back (s ∷ earlier) i ≡ paint_step i s (paint_back earlier i)
-paint_more i (strokes.Colour j paint) earlier = said-cond (eqb j i) paint (paint_back earlier i)
+paint_more i (strokes.Colour j paint) earlier = refl
+paint_more i strokes.ColourDefaults earlier = refl
 paint_more i _ earlier = refl
 
 pub paint_left : (i : ℕ) → IsKeptByOthers (paint_step i) Colours
@@ -99,12 +98,16 @@ entries_made decides defined i below is =
 
 -- ---- the DCLUT
 
+abbrev pub dclut_back : List Stroke → ℕ → ℕ
+dclut_back strokes = left_by dclut_after (λ i. i) strokes
+
 abbrev pub dclut_step : ℕ → Stroke → ℕ → ℕ
 dclut_step i s x = dclut_after s (λ _. x) i
 
 pub dclut_more : (i : ℕ) (s : Stroke) (earlier : List Stroke)
     → dclut_back (s ∷ earlier) i ≡ dclut_step i s (dclut_back earlier i)
-dclut_more i (strokes.Dclut j v) earlier = said-cond (eqb j i) v (dclut_back earlier i)
+dclut_more i (strokes.Dclut j v) earlier = refl
+dclut_more i strokes.ColourDefaults earlier = refl
 dclut_more i _ earlier = refl
 
 pub dclut_left : (i : ℕ) → IsKeptByOthers (dclut_step i) Names
@@ -149,12 +152,16 @@ dclut_made dclut i below = by_test (is_default_dclut dclut) refl where
 
 -- ---- patterns
 
+abbrev pub pattern_back : List Stroke → ℕ → Option Pattern
+pattern_back strokes = left_by pattern_after (λ d. None) strokes
+
 abbrev pub pattern_step : ℕ → Stroke → Option Pattern → Option Pattern
 pattern_step d s x = pattern_after s (λ _. x) d
 
 pub pattern_more : (d : ℕ) (s : Stroke) (earlier : List Stroke)
     → pattern_back (s ∷ earlier) d ≡ pattern_step d s (pattern_back earlier d)
-pattern_more d (strokes.Drcs code pattern) earlier = said-cond (eqb code d) (Some pattern) (pattern_back earlier d)
+pattern_more d (strokes.Drcs code pattern) earlier = refl
+pattern_more d strokes.DrcsClear earlier = refl
 pattern_more d _ earlier = refl
 
 pub pattern_left : (d : ℕ) → IsKeptByOthers (pattern_step d) Patterns
@@ -193,6 +200,9 @@ patterns_made patterns d low high =
 
 -- ---- attributes
 
+abbrev pub screen_pen_back : List Stroke → Pen
+screen_pen_back strokes = left_by (λ stroke was. screen_pen_after was stroke) unset_pen strokes
+
 abbrev pub screen_step : Stroke → Pen → Pen
 screen_step s x = screen_pen_after x s
 
@@ -216,6 +226,9 @@ screen_folded (attr ∷ list) x = screen_folded list (pen_with attr x)
 
 pub screen_made : (pen : Pen) → value_after screen_step unset_pen (screen_strokes pen) ≡ pen
 screen_made pen = screen_folded (attributes_of pen) unset_pen ∙ attributes-all pen
+
+abbrev pub row_pen_back : List Stroke → ℕ → Pen
+row_pen_back strokes = left_by row_pen_after (λ r. unset_pen) strokes
 
 abbrev pub row_step : ℕ → Stroke → Pen → Pen
 row_step r s x = row_pen_after s (λ _. x) r

@@ -8,9 +8,9 @@ use Rattle.cept_codes.specs.declared.command.C1Set.{C1Set}
 use Rattle.cept_codes.specs.declared.command.Command.{Command}
 use Rattle.cept_codes.specs.declared.glyph.Glyph.{Glyph}
 use Rattle.cept_codes.specs.declared.stroke.Stroke.{Stroke}
-use Rattle.cept_profile.specs.Control.{ControlState, Sets, initial_sets}
-use Rattle.cept_profile.specs.Motions.{on_strokes, working_ahead}
+use Rattle.cept_profile.specs.Control.{ControlState, Working, Sets, initial_sets}
 use Rattle.cept_profile.specs.State.{Core}
+use Rattle.cept_profile.proofs.Laws.{on_strokes, on_strokes-none, working_ahead}
 use Rattle.cept_writer.specs.Chains.{Chain, members}
 use Rattle.cept_writer.proofs.Drawing.{Draws, draws_joined, draws_none}
 
@@ -126,16 +126,17 @@ hand_ahead fixed v n = record v {
 }
 
 pub moves_on : (fixed : Fixed) (sets : Sets) (accent : Option ℕ) (protect : Bool) (v : Hand) (n : ℕ)
-    → working_ahead (control_in_cell fixed sets accent protect v) n (control_in_cell fixed sets accent protect v).working
+    → working_ahead (control_in_cell fixed sets accent protect v) n
     ≡ (control_in_cell fixed sets accent protect (hand_ahead fixed v n)).working
 unfolding hand_ahead
 moves_on fixed sets accent protect v n = by_test (leb (v.column + n) 40) fixed.wrap where
   s : ControlState
   s = control_in_cell fixed sets accent protect v
 
-  by_test : (within wraps : Bool) → cond within (record s.working { row = v.row; column = v.column + n })
-      (cond wraps (record s.working { row = cond (eqb v.row fixed.rows) (cond wraps 1 v.row) (v.row + 1); column = 1 })
-      (record s.working { row = v.row; column = 40 }))
+  by_test : (within wraps : Bool)
+      → (cond {A = Working × List Stroke} within (record s.working { row = v.row; column = v.column + n }, [])
+      (cond wraps (record s.working { row = cond (eqb v.row fixed.rows) (cond wraps 1 v.row) (v.row + 1); column = 1 }, [])
+      (record s.working { row = v.row; column = 40 }, []))).0
       ≡ record s.working { row = row_on fixed.rows wraps within v.row; column = column_on wraps within (v.column + n) }
   by_test true wraps = refl
   by_test false true = refl
@@ -144,11 +145,4 @@ moves_on fixed sets accent protect v n = by_test (leb (v.column + n) 40) fixed.w
 -- no row scrolls
 pub stays : (fixed : Fixed) (sets : Sets) (accent : Option ℕ) (protect : Bool) (v : Hand) (n : ℕ)
     → on_strokes (control_in_cell fixed sets accent protect v) n ≡ []
-stays fixed sets accent protect v n = by_test (leb (v.column + n) 40) fixed.wrap where
-  none : List Stroke
-  none = []
-
-  by_test : (within wraps : Bool) → cond within none (cond wraps none none) ≡ none
-  by_test true wraps = refl
-  by_test false true = refl
-  by_test false false = refl
+stays fixed sets accent protect v n = on_strokes-none (control_in_cell fixed sets accent protect v) n refl

@@ -1,7 +1,7 @@
 -- The signs of a segment are put one after the other, and control stays in the segment.
 use Rattle.std.proofs.Common.{◌≡◌, ℕ, zero, suc, ◌+◌, ◌*◌, ◌≤◌, Bool, true, false, cond, eqb, leb, Option, None, Some}
 use Rattle.std.proofs.Common.{List, [], ◌∷◌, ◌++◌, length, map, refl, sym, ap, ◌∙◌, subst, inl, inr, arith}
-use Rattle.std.specs.Prelude.{IsTrue, ◌↔◌, unwrap_or}
+use Rattle.std.specs.Prelude.{IsTrue, ◌↔◌, nat_lt, unwrap_or}
 use Rattle.std.proofs.lemmas.Bool.{le-leb, leb-true}
 use Rattle.std.proofs.lemmas.Bool.Decides.{nat_tests}
 use Rattle.std.proofs.lemmas.List.{append-nil, length-append, length-map, map-append}
@@ -25,11 +25,13 @@ use Rattle.cept_codes.specs.Glyph.{IsCodeOf, IsValidAccent, IsValidGlyph}
 use Rattle.cept_codes.specs.Same.{same_glyph}
 use Rattle.cept_parser.specs.Spelling.{spellings}
 use Rattle.cept_profile.specs.Control.{ControlState, Sets, Working, control_with, initial_sets}
-use Rattle.cept_profile.specs.Sets.{code_of, is_accent, is_left, read_as, set_of, sets_with, sign}
+use Rattle.cept_profile.specs.Sets.{code_of, is_accent, read_as, set_of, sets_with, sign}
 use Rattle.cept_profile.specs.Tiling.{columns_of_size}
-use Rattle.cept_profile.specs.Writing.{columns_of_sign, columns_under, content, control_after_copies, control_after_shift}
-use Rattle.cept_profile.specs.Writing.{sign_with_accent, strokes_of_copies, strokes_of_read, strokes_of_repeat, strokes_of_sign}
-use Rattle.cept_profile.specs.Writing.{working_after_read, working_after_repeat, working_after_sign}
+use Rattle.cept_profile.specs.Writing.{columns_under, content, control_after_shift, effect_of_copies}
+use Rattle.cept_profile.specs.Writing.{sign_with_accent}
+use Rattle.cept_profile.proofs.Laws.{columns_of_sign, control_after_copies, strokes_of_copies, strokes_of_read}
+use Rattle.cept_profile.proofs.Laws.{strokes_of_repeat, strokes_of_sign, working_after_read, working_after_repeat}
+use Rattle.cept_profile.proofs.Laws.{working_after_sign}
 use Rattle.cept_writer.specs.CellCommands.{accent_commands}
 use Rattle.cept_writer.specs.Chains.{Chain, GoOnFrom, chains, members}
 use Rattle.cept_writer.specs.SegmentCommands.{closing_commands, is_shorter_repeated, opening_commands, run_commands}
@@ -217,7 +219,7 @@ module _ (fixed : Fixed) (protect : Bool) (c1 : C1Set) (pen : Pen)
       (sign_strokes fixed s accent protect (in_segment c1 pen v) code g gives)
 
   -- left bytes take the set that is locked to them
-  left_is : (code : ℕ) → code ≤ 0x7F → is_left code ≡ true
+  left_is : (code : ℕ) → code ≤ 0x7F → nat_lt code 0x80 ≡ true
   left_is code below = grind (arith, nat_tests)
 
   -- a sign among those of its set is put, and the hand goes on
@@ -242,7 +244,7 @@ module _ (fixed : Fixed) (protect : Bool) (c1 : C1Set) (pen : Pen)
       (draws_silent single (control_in_cell fixed initial_sets (Some accent) protect (in_segment c1 pen v)) _
       (commands.Graphic accent) _ _
       (ap (λ (r : Read). control_with single (working_after_read (control_after_shift single) r)) waits)
-      (ap (λ (r : Read). strokes_of_read single r) waits)
+      (ap (λ (r : Read). strokes_of_read (control_after_shift single) r) waits)
       (byte_draws initial_sets (Some accent) v code (sign sets.P code) gives))
 
   primary : (v : Hand) (code : ℕ) → code ≤ 0x7F → UnitDraws sets.P v (sign sets.P code) (commands.Graphic code ∷ [])
@@ -358,7 +360,7 @@ module _ (fixed : Fixed) (protect : Bool) (c1 : C1Set) (pen : Pen)
         ≡ puts_from protect v.row v.column (equal_ones n (what_of g))
 
   copies : (s : Sets) (v : Hand) (g : Glyph) (n : ℕ) → v.column + n ≤ 41 → Copies s v g n
-  unfolding control_after_copies strokes_of_copies
+  unfolding effect_of_copies
   copies s v g zero fits =
       record { hand = v; place = λ h. record { row = refl; column = omega arith }; control = refl; made = refl }
   copies s v g (suc n) fits =

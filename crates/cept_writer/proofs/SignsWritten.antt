@@ -1,6 +1,7 @@
 -- The commands of a sign put it once and leave the sets as at the start.
 use Rattle.std.proofs.Common.{◌≡◌, ℕ, ◌≤◌, ◌%◌, Bool, true, false, cond, eqb, None, Some, Option, List, [], ◌∷◌, ◌++◌}
 use Rattle.std.proofs.Common.{refl, sym, ap, ◌∙◌, subst, inl, inr, arith}
+use Rattle.std.specs.Prelude.{nat_lt}
 use Rattle.std.proofs.lemmas.Bool.Decides.{nat_tests}
 use Rattle.cept_codes.specs.declared.command.Command.{Command}
 use Rattle.cept_codes.specs.declared.command.Command.TheVariants as commands
@@ -13,10 +14,10 @@ use Rattle.cept_codes.specs.declared.stroke.Stroke.{Stroke}
 use Rattle.cept_codes.specs.declared.stroke.Stroke.TheVariants as strokes
 use Rattle.cept_codes.specs.Glyph.{IsCodeOf, IsValidAccent, IsValidGlyph}
 use Rattle.cept_profile.specs.Control.{ControlState, Sets, Working, control_after, control_with, initial_sets}
-use Rattle.cept_profile.specs.Sets.{code_of, is_accent, is_left, read_as, set_of, sets_with, sign}
+use Rattle.cept_profile.specs.Sets.{code_of, is_accent, read_as, set_of, sets_with, sign}
 use Rattle.cept_profile.specs.Strokes.{strokes_of}
-use Rattle.cept_profile.specs.Writing.{columns_of_sign, content, control_after_shift, sign_with_accent, strokes_of_read}
-use Rattle.cept_profile.specs.Writing.{working_after_read}
+use Rattle.cept_profile.specs.Writing.{content, control_after_shift, sign_with_accent}
+use Rattle.cept_profile.proofs.Laws.{columns_of_sign, strokes_of_read, working_after_read}
 use Rattle.cept_writer.specs.CellCommands.{accent_commands, glyph_commands, sign_commands}
 use Rattle.cept_writer.proofs.Drawing.{Draws, draws_one, draws_silent, draws_then}
 use Rattle.cept_writer.proofs.Resting.{Fixed, Hand, hand_ahead, control_in_cell, moves_on, stays}
@@ -77,11 +78,12 @@ pub sign_strokes : (fixed : Fixed) (s : Sets) (accent : Option ℕ) (protect : B
     ≡ strokes.Put (record { row = v.row; column = v.column })
     (record { what = content v.c1 (sign_with_accent g.set g.code accent) v.pen; protected = protect }) ∷ []
 sign_strokes fixed s accent protect v code g gives =
+    let t : Sets = record s { single = None } in
     let from : ControlState = control_in_cell fixed s accent protect v in
-    ap (λ (r : Read). strokes_of_read from r) gives
+    ap (λ (r : Read). strokes_of_read (control_after_shift from) r) gives
     ∙ ap (λ (more : List Stroke). strokes.Put (record { row = v.row; column = v.column })
     (record { what = content v.c1 (sign_with_accent g.set g.code accent) v.pen; protected = protect }) ∷ more)
-    (stays fixed s accent protect v (columns_of_sign from))
+    (stays fixed t accent protect v (columns_of_sign (control_in_cell fixed t accent protect v)))
 
 -- ---- the commands of a sign
 
@@ -98,7 +100,7 @@ pub record Puts (fixed : Fixed) (protect : Bool) (v : Hand) (g : Glyph) (cs : Li
 
 module _ (fixed : Fixed) (protect : Bool) (v : Hand) where
   -- left bytes take the set that is locked to them
-  left_is : (code : ℕ) → code ≤ 0x7F → is_left code ≡ true
+  left_is : (code : ℕ) → code ≤ 0x7F → nat_lt code 0x80 ≡ true
   left_is code below = grind (arith, nat_tests)
 
   accented : (code accent : ℕ) → code ≤ 0x7F → 0x40 ≤ accent → accent ≤ 0x4F
@@ -117,7 +119,7 @@ module _ (fixed : Fixed) (protect : Bool) (v : Hand) where
         draws = draws_silent _ single _ (commands.Single 2) _ _ refl refl
             (draws_silent single (control_in_cell fixed initial_sets (Some accent) protect (hand_without_run v)) _ (commands.Graphic accent) _ _
             (ap (λ (r : Read). control_with single (working_after_read (control_after_shift single) r)) waits)
-            (ap (λ (r : Read). strokes_of_read single r) waits)
+            (ap (λ (r : Read). strokes_of_read (control_after_shift single) r) waits)
             (draws_one _ _ (commands.Graphic code) _
             (sign_control fixed initial_sets (Some accent) protect (hand_without_run v) code (sign sets.P code) gives)
             (sign_strokes fixed initial_sets (Some accent) protect (hand_without_run v) code (sign sets.P code) gives)));

@@ -12,7 +12,6 @@ use Rattle.cept_codes.specs.declared.look.Pattern.{Pattern}
 use Rattle.cept_codes.specs.Attribute.{unset_pen}
 use Rattle.cept_codes.specs.Place.{Place}
 use Rattle.cept_codes.specs.Table.{table, row_of, list_by_index}
-use Rattle.cept_profile.specs.Cells.{cell_back}
 use Rattle.cept_profile.specs.Colours.{default_paints}
 use Rattle.cept_profile.specs.Sets.{read_as, set_of}
 use Rattle.cept_profile.specs.State.{blank_page, core}
@@ -85,7 +84,7 @@ exchanged_names = refl
 
 -- the page of the start is a reset and its format, and with an area and implicit scrolling these come last
 pub page_of_the_start : plain_commands (core []) ≡ commands.FullDefaults c1sets.Parallel ∷ commands.Format 24 true ∷ []
-unfolding plain_commands entries_below patterns_below rows_below cells_below attributes_of cell_back default_paints table row_of list_by_index
+unfolding plain_commands entries_below patterns_below rows_below cells_below attributes_of default_paints table row_of list_by_index
 page_of_the_start = refl
 
 -- a pattern of one plane
@@ -146,5 +145,5 @@ pub page_of_some_parts : plain_commands (core (commands.Position 2 3 ∷ command
     ∷ commands.Graphic 0x41
     ∷ commands.Position 2 4 ∷ commands.Protect true ∷ commands.DesignateC1 c1sets.Serial ∷ commands.C1 30
     ∷ commands.Protect false ∷ []
-unfolding plain_commands entries_below patterns_below rows_below cells_below attributes_of cell_back default_paints table row_of list_by_index set_of read_as
+unfolding plain_commands entries_below patterns_below rows_below cells_below attributes_of default_paints table row_of list_by_index set_of read_as
 page_of_some_parts = refl

@@ -5,11 +5,10 @@ use Rattle.cept_codes.specs.declared.glyph.SetId.TheVariants as sets
 use Rattle.cept_codes.specs.declared.look.Pattern.{Pattern}
 use Rattle.cept_codes.specs.Table.{table, row_of, list_by_index}
 use Rattle.cept_parser.specs.Spelling.{spelling, pattern_bytes, plane_bytes, line_bytes, half_line_byte}
-use Rattle.cept_profile.specs.Cells.{cell_back}
 use Rattle.cept_profile.specs.Colours.{default_paints}
 use Rattle.cept_profile.specs.Sets.{read_as, set_of}
 use Rattle.cept_profile.specs.State.{core}
-use Rattle.cept_profile.specs.Writing.{control_after_copies, strokes_of_copies}
+use Rattle.cept_profile.specs.Writing.{effect_of_copies}
 use Rattle.cept_writer.specs.AttributeCommands.{attributes_of}
 use Rattle.cept_writer.specs.Chains.{chains}
 use Rattle.cept_writer.specs.CompactCommands.{changed_below, changed_commands, compact_commands, compact_text}
@@ -21,7 +20,7 @@ use Rattle.cept_writer.specs.SegmentCommands.{segments_commands, written_below}
 pub row_of_mosaics : compact_text (core (commands.LockLeft 1 ∷ commands.Graphic 0x7F ∷ commands.Repeat 39 ∷ []))
     ≡ 0x1F ∷ 0x2F ∷ 0x42 ∷ 0x1F ∷ 0x2D ∷ 0x41 ∷ 0x70 ∷ 0x1F ∷ 0x41 ∷ 0x41 ∷ 0x1B ∷ 0x22 ∷ 0x41 ∷ 0x0E ∷ 0x7F ∷ 0x12
     ∷ 0x67 ∷ 0x0F ∷ []
-unfolding compact_commands changed_commands changed_below defined_commands defined_below rows_below segments_commands written_below chains spelling attributes_of cell_back default_paints table row_of list_by_index set_of read_as control_after_copies strokes_of_copies pattern_bytes plane_bytes line_bytes half_line_byte
+unfolding compact_commands changed_commands changed_below defined_commands defined_below rows_below segments_commands written_below chains spelling attributes_of default_paints table row_of list_by_index set_of read_as effect_of_copies pattern_bytes plane_bytes line_bytes half_line_byte
 row_of_mosaics = refl
 
 -- two signs with an accent, the second of them repeated
@@ -29,7 +28,7 @@ pub two_accents : compact_text (core (commands.Single 2 ∷ commands.Graphic 0x4
     ∷ commands.Single 2 ∷ commands.Graphic 0x48 ∷ commands.Graphic 0x61 ∷ []))
     ≡ 0x1F ∷ 0x2F ∷ 0x42 ∷ 0x1F ∷ 0x2D ∷ 0x41 ∷ 0x70 ∷ 0x1F ∷ 0x41 ∷ 0x41 ∷ 0x1B ∷ 0x22 ∷ 0x41 ∷ 0x19 ∷ 0x48 ∷ 0x61
     ∷ 0x12 ∷ 0x41 ∷ []
-unfolding compact_commands changed_commands changed_below defined_commands defined_below rows_below segments_commands written_below chains spelling attributes_of cell_back default_paints table row_of list_by_index set_of read_as control_after_copies strokes_of_copies pattern_bytes plane_bytes line_bytes half_line_byte
+unfolding compact_commands changed_commands changed_below defined_commands defined_below rows_below segments_commands written_below chains spelling attributes_of default_paints table row_of list_by_index set_of read_as effect_of_copies pattern_bytes plane_bytes line_bytes half_line_byte
 two_accents = refl
 
 -- 12x10 pixels in one plane, all of them set
@@ -55,5 +54,5 @@ pub page_of_many_parts : compact_text (core (commands.Entry 16 (record { r = 15;
     ∷ 0x51 ∷ 0x1F ∷ 0x41 ∷ 0x41 ∷ 0x1B ∷ 0x22 ∷ 0x41 ∷ 0x9B ∷ 0x30 ∷ 0x40 ∷ 0x87 ∷ 0x8D ∷ 0x42 ∷ 0x54 ∷ 0x58 ∷ 0x1F
     ∷ 0x43 ∷ 0x41 ∷ 0x1B ∷ 0x22 ∷ 0x41 ∷ 0x1B ∷ 0x28 ∷ 0x20 ∷ 0x40 ∷ 0x21 ∷ 0x1B ∷ 0x28 ∷ 0x40 ∷ 0x41 ∷ 0x1F ∷ 0x58
     ∷ 0x41 ∷ 0x1B ∷ 0x22 ∷ 0x41 ∷ 0x53 ∷ 0x59 ∷ 0x53 ∷ []
-unfolding compact_commands changed_commands changed_below defined_commands defined_below rows_below segments_commands written_below chains spelling attributes_of cell_back default_paints table row_of list_by_index set_of read_as control_after_copies strokes_of_copies pattern_bytes plane_bytes line_bytes half_line_byte
+unfolding compact_commands changed_commands changed_below defined_commands defined_below rows_below segments_commands written_below chains spelling attributes_of default_paints table row_of list_by_index set_of read_as effect_of_copies pattern_bytes plane_bytes line_bytes half_line_byte
 page_of_many_parts = refl

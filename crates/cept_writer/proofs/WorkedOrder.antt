@@ -5,11 +5,10 @@ use Rattle.cept_codes.specs.declared.command.Command.TheVariants as commands
 use Rattle.cept_codes.specs.declared.look.Pattern.{Pattern}
 use Rattle.cept_codes.specs.Table.{list_by_index, row_of, table}
 use Rattle.cept_parser.specs.Spelling.{half_line_byte, line_bytes, pattern_bytes, plane_bytes, spelling, spellings}
-use Rattle.cept_profile.specs.Cells.{cell_back}
 use Rattle.cept_profile.specs.Colours.{default_paints}
 use Rattle.cept_profile.specs.Sets.{read_as, set_of}
 use Rattle.cept_profile.specs.State.{Core, blank_page, core}
-use Rattle.cept_profile.specs.Writing.{control_after_copies, strokes_of_copies}
+use Rattle.cept_profile.specs.Writing.{effect_of_copies}
 use Rattle.cept_writer.specs.AttributeCommands.{attributes_of}
 use Rattle.cept_writer.specs.Chains.{chains}
 use Rattle.cept_writer.specs.CompactCommands.{changed_below, changed_commands, compact_commands, compact_text}
@@ -64,5 +63,5 @@ page_of_all_parts : compact_text (core all_parts)
     ∷ 0x1F ∷ 0x54 ∷ 0x41 ∷ 0x9B ∷ 0x30 ∷ 0x40 ∷ 0x1B ∷ 0x23 ∷ 0x21 ∷ 0x51
     ∷ 0x1F ∷ 0x41 ∷ 0x41 ∷ 0x1B ∷ 0x22 ∷ 0x41 ∷ 0x41
     ∷ 0x9B ∷ 0x30 ∷ 0x32 ∷ 0x3B ∷ 0x30 ∷ 0x35 ∷ 0x55 ∷ 0x9B ∷ 0x32 ∷ 0x60 ∷ []
-unfolding compact_commands changed_commands changed_below defined_commands defined_below rows_below segments_commands written_below chains spelling attributes_of cell_back default_paints table row_of list_by_index set_of read_as control_after_copies strokes_of_copies pattern_bytes plane_bytes line_bytes half_line_byte
+unfolding compact_commands changed_commands changed_below defined_commands defined_below rows_below segments_commands written_below chains spelling attributes_of default_paints table row_of list_by_index set_of read_as effect_of_copies pattern_bytes plane_bytes line_bytes half_line_byte
 page_of_all_parts = refl

@@ -15,7 +15,7 @@ use Rattle.cept_codes.specs.Place.{Place}
 use Rattle.cept_control.specs.Numbers.{bit, flash_number, set_number}
 use Rattle.cept_live.specs.Notices.{Saying, Change, Refusal, change_notice, colour_of, colours_of, notice_of, pixels_of}
 use Rattle.cept_live.specs.Notices.{sign_of}
-use Rattle.cept_report.specs.Text.{reason_number}
+use Rattle.cept_report.specs.Text.{named_reason}
 use Rattle.tamligub.specs.Told.{flash_in, look_in, paint_in, reason_in, saying_in, set_in, shape_in}
 
 set_read : (set : SetId) → set_in (set_number set) ≡ set
@@ -34,8 +34,8 @@ flash_read flashes.Fast1 = refl
 flash_read flashes.Fast2 = refl
 flash_read flashes.Fast3 = refl
 
-reason_read : (reason : Reason) → reason_in (reason_number reason) ≡ reason
-unfolding reason_number
+reason_read : (reason : Reason) → reason_in (named_reason reason).0 ≡ reason
+unfolding named_reason
 reason_read reasons.UnassignedControl = refl
 reason_read reasons.UnknownEscape = refl
 reason_read reasons.UnknownCsi = refl

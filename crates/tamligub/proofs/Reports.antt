@@ -1,6 +1,6 @@
 -- What stands in the slice after a run, and what its status says.
 use Rattle.std.proofs.Common.{◌≡◌, ◌⊎◌, inl, inr, ℕ, ◌<◌, Bool, true, false, ◌&&◌, List, ◌++◌, Some, codes, cond}
-use Rattle.std.proofs.Common.{sym, ap, subst, ◌∙◌, ◌≤◌, arith, length, is_some, IsSome}
+use Rattle.std.proofs.Common.{sym, ap, subst, ◌∙◌, ◌≤◌, arith, length, nat_lt, is_some, IsSome}
 use Rattle.std.proofs.Common.{take, drop, take-append-drop, length-append, length-take}
 use Rattle.std.proofs.lemmas.Option.{same_Some}
 use Rattle.std.specs.Io.KnownBytes.{append_known}
@@ -9,12 +9,13 @@ use Rattle.cept_outside.specs.ShelfState.{ShelfState, Holds, bytes_under}
 use Rattle.cept_outside.specs.SinkState.{SinkState, Gains, GainsPart}
 use Rattle.cept_parser.specs.Items.{closed_items}
 use Rattle.cept_words.specs.Faults.{Fault}
+use Rattle.cept_report.specs.Text.{script_fault_line}
 use Rattle.cept_run.specs.Course.{Course, Source, File, Given, HasBytes, first_fault_in, course_of}
 use Rattle.cept_run.specs.Course.{ScriptSource, NoScript, ScriptFile, IsReadFirst}
-use Rattle.cept_run.specs.Events.{has_refusal}
+use Rattle.cept_run.specs.Events.{refused_count}
 use Rattle.cept_run.specs.Outside.{PutsFront}
-use Rattle.cept_run.specs.Run.{EndsWhole, EndsAtScript, EndsAtWriteFault, IsPageUnread, IsReportCut, Ends, RunsCourse, ReadsFiles}
-use Rattle.cept_run.specs.Run.{TouchesShelf, fault_text, status_number}
+use Rattle.cept_run.specs.Run.{EndsWhole, EndsAtScript, IsPageUnread, IsReportCut, Ends, RunsCourse, ReadsFiles}
+use Rattle.cept_run.specs.Run.{TouchesShelf, status_number}
 use Rattle.cept_run.specs.declared.run.Status.{Status}
 use Rattle.cept_run.specs.declared.run.Status.TheVariants as statuses
 use Rattle.tamligub.specs.Called.{Holding, HasRun, Supplies, SuppliesScript, IsSupplied, IsScriptSupplied, fault_in, IsReported}
@@ -64,7 +65,7 @@ module _ (word : List ℕ) (given number : ℕ) (page script old new : List ℕ)
   done refused e is = record {
     holding = subst (λ t. Holding t old new put) (text_is refused e) run.holding;
     status = is ∙ ap (λ b. cond b 1 0) e.refusals
-        ∙ ap (λ p. cond (course.judged && has_refusal (closed_items p)) 1 0)
+        ∙ ap (λ p. cond (course.judged && nat_lt 0 (refused_count (closed_items p))) 1 0)
         (supplied page script run.runs.before.shelf run.runs.has_page run.runs.has_script course.page e.page read
         e.page_is page_is);
   }
@@ -104,16 +105,16 @@ module _ (word : List ℕ) (given number : ℕ) (page script old new : List ℕ)
   flushes_always = ap (λ (s : SinkState). s.always_flushes) run.runs.before_sink
 
   -- the room of the sink is used up
-  full_by : EndsAtWriteFault course run.runs.before run.runs.after → put ≡ length old
+  full_by : Ends course run.runs.before run.runs.after statuses.WriteFault → put ≡ length old
   full_by e =
       let on = run.runs in
       let faultless : on.before.sink.faults ≡ 0 = ap (λ (s : SinkState). s.faults) on.before_sink in
       let counted : on.after.sink.faults ≡ run.end.faults = ap (λ (s : SinkState). s.faults) on.after_sink in
-      run.holding.count ∙ run.full (omega (arith, e.write_fault, faultless, counted))
+      run.holding.count ∙ run.full (omega (arith, e.0, faultless, counted))
 
-  front_reported_by : EndsAtWriteFault course run.runs.before run.runs.after
+  front_reported_by : Ends course run.runs.before run.runs.after statuses.WriteFault
       → IsFrontReported course read lines old new put
-  front_reported_by e = record { text = run.text; holding = run.holding; cut = by_cut e.cut; full = full_by e }
+  front_reported_by e = record { text = run.text; holding = run.holding; cut = by_cut e.1; full = full_by e }
     where
       same : (source : Source) (bytes other : List ℕ) → HasBytes run.runs.before.shelf source bytes
           → Supplies page script source other → bytes ≡ other
@@ -121,8 +122,11 @@ module _ (word : List ℕ) (given number : ℕ) (page script old new : List ℕ)
           supplied page script run.runs.before.shelf run.runs.has_page run.runs.has_script source bytes other
 
       of_front : (whole : List ℕ) → PutsFront whole run.runs.before.sink run.runs.after.sink → IsFront run.text whole
-      of_front whole (inl part) = part_is whole part
-      of_front whole (inr all) = let no : false ≡ true = sym all.1 ∙ flushes_always in cc
+      of_front whole front = by_size front.2
+        where
+          by_size : (front.0 < length whole) ⊎ (run.runs.before.sink.always_flushes ≡ false) → IsFront run.text whole
+          by_size (inl short) = part_is whole (record { size = front.0; short = short; gains = front.1 })
+          by_size (inr fails) = let no : false ≡ true = sym fails ∙ flushes_always in cc
 
       first : (bytes : List ℕ) → IsReadFirst run.runs.before.shelf course.script bytes → bytes ≡ lines
       first bytes is = supplied_first page script run.runs.before.shelf run.runs.has_page run.runs.has_script course.script
@@ -131,12 +135,12 @@ module _ (word : List ℕ) (given number : ℕ) (page script old new : List ℕ)
       -- at the line of a script's fault
       of_line : (source : ScriptSource) → SuppliesScript page script source lines
           → EndsAtScript source course.page run.runs.before run.runs.after statuses.WriteFault
-          → (fault : Fault) × (fault_in source lines ≡ Some fault) × IsFront run.text (fault_text fault)
+          → (fault : Fault) × (fault_in source lines ≡ Some fault) × IsFront run.text (script_fault_line fault.line fault.reason)
       of_line NoScript is c = elim c [ ]
       of_line (ScriptFile grammar name) is c = (
         c.fault,
         subst (λ l. first_fault_in grammar l ≡ Some c.fault) (same (File name) c.script lines c.script_is is) c.found,
-        of_front (fault_text c.fault) c.put,
+        of_front (script_fault_line c.fault.line c.fault.reason) c.put,
       )
 
       by_cut : IsReportCut course run.runs.before run.runs.after
@@ -174,18 +178,18 @@ module _ (word : List ℕ) (given number : ℕ) (page script old new : List ℕ)
   -- the line of the fault stands in the slice
   fault_held : (lines : List ℕ) (source : ScriptSource) → SuppliesScript page script source lines
       → EndsAtScript source course.page run.runs.before run.runs.after statuses.Script
-      → (fault : Fault) × (fault_in source lines ≡ Some fault) × Holding (fault_text fault) old new put
+      → (fault : Fault) × (fault_in source lines ≡ Some fault) × Holding (script_fault_line fault.line fault.reason) old new put
   fault_held lines NoScript is e = elim e [ ]
   fault_held lines (ScriptFile grammar name) is e =
       let on = run.runs in
       let same : e.script ≡ lines =
       supplied page script on.before.shelf on.has_page on.has_script (File name) e.script lines e.script_is is in
-      let told : Some run.text ≡ Some (fault_text e.fault) =
+      let told : Some run.text ≡ Some (script_fault_line e.fault.line e.fault.reason) =
       sym run.is ∙ ap (λ (s : SinkState). s.bytes) (sym on.after_sink) ∙ e.put.put
-      ∙ ap (λ (s : SinkState). append_known s.bytes (fault_text e.fault)) on.before_sink in (
+      ∙ ap (λ (s : SinkState). append_known s.bytes (script_fault_line e.fault.line e.fault.reason)) on.before_sink in (
         e.fault,
         subst (λ l. first_fault_in grammar l ≡ Some e.fault) same e.found,
-        subst (λ t. Holding t old new put) (same_Some run.text (fault_text e.fault) told) run.holding,
+        subst (λ t. Holding t old new put) (same_Some run.text (script_fault_line e.fault.line e.fault.reason) told) run.holding,
       )
 
   fault_by : (s : Status) (lines : List ℕ) → SuppliesScript page script course.script lines → answer ≡ status_number s
@@ -218,20 +222,20 @@ module _ (word : List ℕ) (given number : ℕ) (page script old new : List ℕ)
   paged_by : IsPageUnread course run.runs.before run.runs.after
       ⊎ EndsAtScript course.script course.page run.runs.before run.runs.after statuses.ReadFault
       → (name : List ℕ) × (course.page ≡ File name)
-  paged_by (inl unread) = (unread.name, unread.first.named)
+  paged_by (inl unread) = (unread.first.name, unread.first.named)
   paged_by (inr script) = paged_at course.script script
 
   missed_by : (s : Status) → answer ≡ status_number s → RunsCourse course run.runs.before run.runs.after s → answer ≡ 4
       → IsSupplied course.page → IsScriptSupplied course.script → ⊥
   missed_by statuses.ReadFault is r four page_there script_there =
       let on = run.runs in
-      let paged = paged_by r.ends.which in
+      let paged = paged_by r.ends.2 in
       let files : ReadsFiles course paged.0 on.before.shelf on.after.shelf statuses.ReadFault =
       subst (λ (s : Source). TouchesShelf course s on.before.shelf on.after.shelf statuses.ReadFault) paged.1
       r.shelf in
       let stays = files.missed (there paged.0 (subst IsSupplied paged.1 page_there))
       (λ grammar other named. there other (subst IsScriptSupplied named script_there)) in
-      absurd (omega (arith, r.ends.read_fault, on.faultless, on.unmissed, on.missed, stays))
+      absurd (omega (arith, r.ends.0, on.faultless, on.unmissed, on.missed, stays))
   missed_by statuses.Done is r four page_there script_there = absurd (omega (arith, is, four))
   missed_by statuses.Refusals is r four page_there script_there = absurd (omega (arith, is, four))
   missed_by statuses.Usage is r four page_there script_there = absurd (omega (arith, is, four))

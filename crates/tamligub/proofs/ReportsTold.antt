@@ -13,7 +13,7 @@ use Rattle.cept_parser.specs.Items.{closed_items, command_said, commands_of, ite
 use Rattle.cept_profile.specs.Changes.{changes_between}
 use Rattle.cept_profile.specs.Look.{grid}
 use Rattle.cept_report.specs.Text.{change_lines}
-use Rattle.cept_editor.specs.Events.{Event, report}
+use Rattle.cept_editor.specs.Events.{Event, still_event, report}
 use Rattle.cept_live.specs.declared.notice.Notice.{Notice}
 use Rattle.cept_live.specs.Lines.{item_lines, line_of, lines_after, lines_of, said_lines}
 use Rattle.cept_live.specs.Live.{Ends, HasFed, LiveState, TellsAll}
@@ -21,8 +21,8 @@ use Rattle.cept_live.specs.Notices.{Saying, notice_of, sayings_after}
 use Rattle.cept_live.proofs.Laws.{commands_of-more, lines_of-items, sayings_after-append}
 use Rattle.cept_run.specs.declared.words.ReportOptions.{ReportOptions}
 use Rattle.cept_run.specs.declared.words.PageAction.TheVariants as pages
-use Rattle.cept_run.specs.Events.{end_event, history, item_event, item_events, NoSequel, remaining_of, run_events}
-use Rattle.cept_run.specs.Events.{text_of_said}
+use Rattle.cept_run.specs.Events.{history, item_event, item_events, NoSequel, remaining_of, run_events}
+use Rattle.cept_run.specs.Events.{end_text, item_text}
 use Rattle.cept_run.specs.Words.{options_of_page}
 use Rattle.tamligub.specs.Told.{lines_in}
 use Rattle.tamligub.proofs.NoticesRead.{saying_read}
@@ -30,11 +30,17 @@ use Rattle.tamligub.proofs.NoticesRead.{saying_read}
 abbrev asked : ReportOptions
 asked = options_of_page pages.Changes
 
+-- the last event of a page's report
+abbrev last : List ℕ → List (List Look) → Event
+last page shown =
+    let left = remaining_of asked page NoSequel in
+    still_event left (end_text asked.way asked.end asked shown page left)
+
 -- ---- of items
 
 -- the text of an item's event
 text_told : (earlier : List Item) (item : Item) (s : Said) → item.what ≡ s
-    → text_of_said asked item s (changes_between (grid (history asked earlier)) (grid (history asked (earlier ++ item ∷ []))))
+    → item_text asked.way asked.refusals item s (changes_between (grid (history asked earlier)) (grid (history asked (earlier ++ item ∷ []))))
     ≡ said_lines item (commands_of earlier) s
 text_told earlier item (said.Command command) is =
     ap (λ (h : List Command). change_lines item.at (changes_between (grid (commands_of earlier)) (grid h)))
@@ -64,10 +70,10 @@ report-items : (page : List ℕ) (shown : List (List Look))
     → report (run_events asked page NoSequel shown) ≡ flat_map (λ (e : Event). e.text) (item_events asked (closed_items page))
 unfolding report
 report-items page shown =
-    ap (flat_map (λ (e : Event). e.text)) (ap (λ (l : List Event). l ++ end_event asked shown page (remaining_of asked page NoSequel) ∷ [])
+    ap (flat_map (λ (e : Event). e.text)) (ap (λ (l : List Event). l ++ last page shown ∷ [])
     (append-nil (item_events asked (closed_items page))))
     ∙ flat_map-append (λ (e : Event). e.text) (item_events asked (closed_items page))
-    (end_event asked shown page (remaining_of asked page NoSequel) ∷ [])
+    (last page shown ∷ [])
     ∙ append-nil _
 
 texts-page : (page : List ℕ) → flat_map (λ (e : Event). e.text) (item_events asked (closed_items page)) ≡ lines_after [] (closed_items page)

@@ -48,7 +48,7 @@ without_memory : (words : List (List ℕ)) (before after : Outside) (status : St
     → request_of words ≡ Some request → Runs words before after status → status ≡ statuses.NoMemory
     → (course_of request).painting ≡ true
 without_memory words before after status request asks runs is =
-    (subst (λ (s : Status). Ends (course_of request) before after s) is (runs.request request asks).ends).memory
+    (subst (λ (s : Status). Ends (course_of request) before after s) is (runs.request request asks).ends).0
 
 pub memory_taken : (word : List ℕ) (given number : ℕ) (page script old new : List ℕ) (put answer : ℕ) (status : Status)
     → answer ≡ status_number status → HasRun word given number page script old new put status
@@ -83,7 +83,7 @@ unput_at (ScriptFile grammar name) page before after ends = ap (λ (o : Output).
 unput_by : (words : List (List ℕ)) (before after : Outside) (asked : Option Request) → request_of words ≡ asked
     → Runs words before after statuses.NoMemory → after.sink ≡ before.sink
 unput_by words before after (Some request) is runs =
-    elim (runs.request request is).ends.early [
+    elim (runs.request request is).ends.1 [
       | inl same ↦ ap (λ (o : Outside). o.sink) same
       | inr script ↦ unput_at (course_of request).script (course_of request).page before after script
     ]

@@ -1,6 +1,6 @@
 -- What a call does: it is a run over a shelf, a sink and a glass in memory. This project's own.
 use Rattle.std.specs.Prelude.{◌≡◌, ◌⊎◌, ◌<◌, ◌≤◌, ℕ, ◌&&◌, List, [], ◌++◌, drop, length, codes}
-use Rattle.std.specs.Prelude.{◌↔◌, true, Option, Some, None, bytes_eq}
+use Rattle.std.specs.Prelude.{◌↔◌, true, Option, Some, None, bytes_eq, nat_lt}
 use Rattle.std.specs.Prelude.{if◌then◌else◌}
 use Rattle.cept_words.specs.Faults.{Fault}
 use Rattle.cept_editor.specs.Events.{report}
@@ -8,10 +8,11 @@ use Rattle.cept_outside.specs.ShelfState.{Holds, bytes_under}
 use Rattle.cept_outside.specs.SinkState.{SinkState, empty_sink}
 use Rattle.cept_parser.specs.Items.{closed_items}
 use Rattle.cept_profile.specs.Look.{grid}
+use Rattle.cept_report.specs.Text.{script_fault_line}
 use Rattle.cept_run.specs.Course.{Course, Source, File, Given, first_fault_in, ScriptSource, NoScript, ScriptFile, course_of}
-use Rattle.cept_run.specs.Events.{has_refusal}
+use Rattle.cept_run.specs.Events.{refused_count}
 use Rattle.cept_run.specs.Outside.{Outside}
-use Rattle.cept_run.specs.Run.{Runs, fault_text, status_number}
+use Rattle.cept_run.specs.Run.{Runs, status_number}
 use Rattle.cept_run.specs.Words.{Request, request_of}
 use Rattle.cept_run.specs.declared.run.Status.{Status}
 use Rattle.tamligub.specs.Words.{words_for}
@@ -98,7 +99,7 @@ report_of course page script = report (course.events page script (grid (course.r
 -- the report stands in the slice, and the answer says whether an item of the page is refused
 pub record IsReported (course : Course) (page script old new : List ℕ) (put answer : ℕ) : Type 0 where
   pub holding : Holding (report_of course page script) old new put
-  pub status : answer ≡ (if course.judged && has_refusal (closed_items page) then 1 else 0)
+  pub status : answer ≡ (if course.judged && nat_lt 0 (refused_count (closed_items page)) then 1 else 0)
 
 -- a text is the front of another, and not the whole
 pub record IsFront (text whole : List ℕ) : Type 0 where
@@ -109,7 +110,7 @@ pub record IsFront (text whole : List ℕ) : Type 0 where
 -- the front of the report, or of the line of the script's first fault
 abbrev pub IsCutOff : Course → List ℕ → List ℕ → List ℕ → Type 0
 IsCutOff course page script text = IsFront text (report_of course page script)
-    ⊎ ((fault : Fault) × (fault_in course.script script ≡ Some fault) × IsFront text (fault_text fault))
+    ⊎ ((fault : Fault) × (fault_in course.script script ≡ Some fault) × IsFront text (script_fault_line fault.line fault.reason))
 
 -- the front of what was to be put stands in the slice, as much as there is room for
 pub record IsFrontReported (course : Course) (page script old new : List ℕ) (put : ℕ) : Type 0 where
@@ -122,7 +123,7 @@ pub record IsFrontReported (course : Course) (page script old new : List ℕ) (p
 pub record IsFaultReported (course : Course) (script old new : List ℕ) (put : ℕ) : Type 0 where
   pub fault : Fault
   pub found : fault_in course.script script ≡ Some fault
-  pub holding : Holding (fault_text fault) old new put
+  pub holding : Holding (script_fault_line fault.line fault.reason) old new put
 
 -- what the words ask for was done to its end
 abbrev pub Reported : List ℕ → ℕ → ℕ → List ℕ → List ℕ → List ℕ → List ℕ → ℕ → ℕ → Type 0

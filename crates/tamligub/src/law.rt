@@ -12,7 +12,7 @@ ghost use Rattle.cept_live.specs.Notices.{Saying, notice_of, sayings_after};
 ghost use Rattle.cept_run.specs.declared.words.PageAction.TheVariants as pages;
 ghost use Rattle.cept_profile.specs.State.{state};
 ghost use Rattle.cept_run.specs.declared.words.ScriptAction.TheVariants as scripts;
-ghost use Rattle.cept_run.specs.Events.{Edits, end_event, NoSequel, remaining_of, run_events};
+ghost use Rattle.cept_run.specs.Events.{Edits, end_text, NoSequel, remaining_of, run_events};
 ghost use Rattle.cept_run.specs.Words.{options_of_page, options_of_script};
 ghost use Rattle.tamligub.specs.Decoders.{page_of};
 ghost use Rattle.tamligub.specs.Told.{lines_in, saying_in};
@@ -46,6 +46,7 @@ pub fn what_lines_make_is_the_edit()
     ensures page { (page script : List ℕ) (old mid new : LiveState) (list now : List Notice)
         (from to : ℕ) (shown : List (List Look)) → HasFed old page → Ends old list from mid to now
         → AreStepsOf (map (λ line. line.step) (edits script)) mid new → page_of new
-        ≡ (end_event (options_of_script scripts.Edit) shown page
-        (remaining_of (options_of_script scripts.Edit) page (Edits (edits script)))).text }
+        ≡ end_text (options_of_script scripts.Edit).way (options_of_script scripts.Edit).end
+        (options_of_script scripts.Edit) shown page
+        (remaining_of (options_of_script scripts.Edit) page (Edits (edits script))) }
 {}

@@ -1,7 +1,7 @@
 //! Laws of numbers in words.
 ghost use Rattle.std.specs.Prelude.{◌≡◌, ◌<◌, ◌≤◌, ◌*◌, ◌/◌, ◌%◌, ◌^◌, ℕ};
 ghost use Rattle.cept_codes.specs.Look.{bit_of};
-ghost use Rattle.cept_drcs.specs.Unit.{words};
+ghost use Rattle.cept_drcs.specs.Strips.{words};
 
 /// The bits of k words are those of their number below 64 k, and there are no others.
 pub fn numbers_in_words()

@@ -5,7 +5,8 @@ ghost use Rattle.cept_codes.specs.Look.{IsValidPattern};
 ghost use Rattle.cept_codes.specs.declared.command.Form.{Form};
 ghost use Rattle.cept_drcs.specs.Loading.{Loading, Leads, fresh, takes, loading_after, loads, is_full};
 ghost use Rattle.cept_drcs.specs.Loading.{all_lines};
-ghost use Rattle.cept_drcs.specs.Unit.{is_pattern, pattern, pattern_of, pattern_grows, lines_from};
+ghost use Rattle.cept_drcs.specs.Unit.{is_pattern, pattern, pattern_grows, lines_from};
+ghost use Rattle.cept_drcs.specs.Loading.{pattern_of};
 
 /// Bytes that are taken one by one are exactly those of a pattern, and its lines are those that
 /// they add.

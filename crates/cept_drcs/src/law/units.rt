@@ -4,8 +4,9 @@ ghost use Rattle.std.specs.Prelude.{◌++◌, ◌==◌, ◌&&◌, ◌||◌, nat_
 ghost use Rattle.cept_codes.specs.Command.{IsValidForm};
 ghost use Rattle.cept_codes.specs.Look.{IsValidPattern, pixel};
 ghost use Rattle.cept_codes.specs.declared.command.Form.{Form};
-ghost use Rattle.cept_drcs.specs.Block.{blank, part_after_bytes};
-ghost use Rattle.cept_drcs.specs.Cut.{Block, cut};
+ghost use Rattle.cept_drcs.specs.Block.{blank};
+ghost use Rattle.cept_drcs.specs.Adding.{part_after_bytes};
+ghost use Rattle.cept_drcs.specs.Cut.{Block, blocks};
 ghost use Rattle.cept_drcs.specs.Unit.{is_pattern, pattern, pattern_grows, IsLonger, drawn_pixel};
 
 /// Of a valid form, which has a plane, 3/0 alone begins patterns, and is one.
@@ -29,7 +30,7 @@ pub fn patterns_grow_where_a_byte_fits()
     ensures no_longer { (f : Form) (a : ℕ) (u : List ℕ) (c : ℕ) → is_pattern f (a ∷ u) ≡ true
         → pattern_grows f (a ∷ u) ≡ false → is_pattern f (a ∷ u ++ c ∷ []) ≡ false }
     ensures last { (f : Form) (u : List ℕ) (bs : List Block) (b : Block)
-        → is_pattern f u ≡ true → (cut u).blocks ≡ bs ++ b ∷ []
+        → is_pattern f u ≡ true → blocks u ≡ bs ++ b ∷ []
         → pattern_grows f u
         ≡ (nat_lt (length (part_after_bytes f blank b.bytes).lines) f.h
         || (nat_lt b.plane 3 && nat_lt (b.plane + 1) f.planes)) }

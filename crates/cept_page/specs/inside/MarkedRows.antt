@@ -1,13 +1,14 @@
 -- What private clauses say beside `MarkedRows` (this project's own).
 use Rattle.std.specs.Prelude.{ℕ, ◌≡◌, ◌≤◌, ◌<◌, ◌-◌, ◌==◌, ◌&&◌, ◌||◌, Bool, false, List, length}
 use Rattle.std.specs.Prelude.{Option, Some, None}
+use Rattle.std.specs.Option.{option_map_or}
 use Rattle.cept_codes.specs.declared.attribute.Attr.{Attr}
 use Rattle.cept_codes.specs.declared.attribute.Attr.TheVariants as attrs
 use Rattle.cept_codes.specs.declared.cell.What.{What}
 use Rattle.cept_codes.specs.declared.stroke.Stroke.{Stroke}
 use Rattle.cept_codes.specs.declared.stroke.Stroke.TheVariants as strokes
 use Rattle.cept_codes.specs.Table.{entry}
-use Rattle.cept_profile.specs.Cells.{value_after_move}
+use Rattle.cept_profile.specs.Cells.{shifted}
 use Rattle.cept_profile.specs.Look.{is_double, sets_double_size}
 use Rattle.cept_profile.specs.MovedRows.{MovedRows, moved_rows}
 use Rattle.cept_profile.specs.Serial.{is_marker}
@@ -23,7 +24,8 @@ pub record IsUnflagged (marked sized : List Bool) (r : ℕ) : Type 0 where
 abbrev pub flag_after : (What → Bool) → Stroke → (ℕ → Bool) → ℕ → Bool
 flag_after is_such (strokes.Put p cell) was r = was r || (p.row == r && is_such cell.what)
 flag_after is_such strokes.Wipe was r = false
-flag_after is_such stroke was r = value_after_move (moved_rows stroke) false was r
+flag_after is_such stroke was r =
+    option_map_or (λ (m : MovedRows). shifted m.way m.first m.last false was r) (moved_rows stroke) (was r)
 
 -- an attribute of a double size
 abbrev pub gives_size : Attr → Bool
@@ -33,7 +35,7 @@ gives_size _ = false
 -- the flag of sizes of row r after these rows moved: the cells bring theirs, and it stays, since attributes may stay
 abbrev pub size_flag_after_move : Option MovedRows → (ℕ → Bool) → ℕ → Bool
 size_flag_after_move None was r = was r
-size_flag_after_move (Some moved) was r = was r || value_after_move (Some moved) false was r
+size_flag_after_move (Some m) was r = was r || shifted m.way m.first m.last false was r
 
 -- the flag of sizes: an attribute of its row sets it too
 abbrev pub size_flag_after : Stroke → (ℕ → Bool) → ℕ → Bool

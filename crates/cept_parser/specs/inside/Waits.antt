@@ -3,7 +3,8 @@ use Rattle.std.specs.Prelude.{◌≡◌, ℕ, ◌≤◌, true, false, List, [], 
 use Rattle.std.specs.Prelude.{Option, Some, None}
 use Rattle.cept_codes.specs.Command.{IsValidForm}
 use Rattle.cept_codes.specs.declared.item.Item.{Item}
-use Rattle.cept_codes.specs.declared.item.Reason.TheVariants.{Interrupted}
+use Rattle.cept_codes.specs.declared.item.Reason.TheVariants.{Interrupted, Truncated}
+use Rattle.cept_codes.specs.declared.item.Said.{Said}
 use Rattle.cept_codes.specs.declared.item.Said.TheVariants.{Refused}
 use Rattle.cept_parser.specs.declared.context.Mode.TheVariants.{Text}
 use Rattle.cept_parser.specs.declared.context.Context.{Context}
@@ -21,6 +22,11 @@ outcome_at_misfit x None = record { said = Refused Interrupted; next = with_mode
 -- the item that bytes at this place are then
 abbrev pub cut_item : Context → ℕ → List ℕ → Item
 cut_item x at p = record { at = at; len = length p; what = (outcome_at_misfit x (unit x p)).said }
+
+-- what pending bytes say at the end of the input: their command where they are a unit, else they are truncated
+unfoldable pub said_at_end : Option Outcome → Said
+said_at_end (Some c) = c.said
+said_at_end None = Refused Truncated
 
 -- at most 100 bytes that fit in this context and are no pattern
 pub record AreToCut (x : Context) (u : List ℕ) : Type 0 where

@@ -6,7 +6,7 @@ ghost use Rattle.cept_codes.specs.declared.command.Command.{Command};
 ghost use Rattle.cept_profile.specs.Control.{control};
 ghost use Rattle.cept_profile.specs.ControlSettings.{ends_service, is_running, outer_history};
 ghost use Rattle.cept_profile.specs.ControlSettings.{settings, settings_of};
-ghost use Rattle.cept_profile.specs.PageParts.{format_back};
+ghost use Rattle.cept_profile.specs.LastSaid.{format_back};
 ghost use Rattle.cept_profile.specs.Strokes.{strokes_in};
 ghost use Rattle.cept_profile.specs.Valid.{AllValid};
 

@@ -6,7 +6,7 @@ ghost use Rattle.cept_codes.specs.declared.stroke.Stroke.{Stroke};
 ghost use Rattle.cept_codes.specs.Stroke.{IsValidStroke};
 ghost use Rattle.cept_profile.specs.LastSaid.{row_attributes, screen_attributes};
 ghost use Rattle.cept_profile.specs.PageParts.{list_of_rows};
-ghost use Rattle.cept_profile.specs.State.{blank_page, page, page_after};
+ghost use Rattle.cept_profile.specs.State.{blank_page, page_after, state};
 ghost use Rattle.cept_profile.specs.Strokes.{strokes_in};
 
 /// Each class of the attributes of a row is what the last stroke says that says anything of it for
@@ -15,9 +15,9 @@ ghost use Rattle.cept_profile.specs.Strokes.{strokes_in};
 /// the screen, and in a row that comes free. So it is after the strokes of any commands, and where
 /// valid strokes are drawn in order.
 pub fn attributes_look_back()
-    ensures rows { (history : List Command) → (page history).row_pens
+    ensures rows { (history : List Command) → (state history).page.row_pens
         ≡ list_of_rows (row_attributes (reverse (strokes_in history))) }
-    ensures screen { (history : List Command) → (page history).screen_pen
+    ensures screen { (history : List Command) → (state history).page.screen_pen
         ≡ screen_attributes (reverse (strokes_in history)) }
     ensures drawn_rows { (strokes : List Stroke) → AllByRecursion IsValidStroke strokes
         → (page_after blank_page strokes).row_pens

@@ -7,7 +7,7 @@ ghost use Rattle.std.specs.List.{AllByRecursion};
 ghost use Rattle.cept_codes.specs.Command.{IsValidCommand};
 ghost use Rattle.cept_codes.specs.Stroke.{IsValidStroke};
 ghost use Rattle.cept_profile.specs.Control.{control, control_after};
-ghost use Rattle.cept_profile.specs.State.{state_after, blank_page, page_after, page, page_back};
+ghost use Rattle.cept_profile.specs.State.{state_after, blank_page, page_after, page_back, state};
 ghost use Rattle.cept_profile.specs.State.{state};
 ghost use Rattle.cept_profile.specs.Strokes.{strokes_in, strokes_of};
 ghost use Rattle.cept_profile.specs.Valid.{AllValid};
@@ -30,8 +30,8 @@ pub fn one_more_command_by_parts()
         ≡ strokes_in history ++ strokes_of (control history) command }
     ensures page { (history : List Command) (command : Command) → AllValid history
         → IsValidCommand command
-        → page (history ++ command ∷ [])
-        ≡ page_after (page history) (strokes_of (control history) command) }
+        → (state (history ++ command ∷ [])).page
+        ≡ page_after (state history).page (strokes_of (control history) command) }
 {}
 
 /// The page whose cells are asked of the strokes from the last backwards is the blank page with all
@@ -39,7 +39,7 @@ pub fn one_more_command_by_parts()
 /// valid would move rows that there aren't.
 pub fn looking_back_is_drawing()
     ensures history { (history : List Command) → AllValid history
-        → page history ≡ page_after blank_page (strokes_in history) }
+        → (state history).page ≡ page_after blank_page (strokes_in history) }
     ensures strokes { (strokes : List Stroke) → AllByRecursion IsValidStroke strokes
         → page_back (reverse strokes) ≡ page_after blank_page strokes }
 {}

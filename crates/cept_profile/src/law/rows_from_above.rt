@@ -8,10 +8,10 @@ ghost use Rattle.cept_codes.specs.declared.look.Part.{Part};
 ghost use Rattle.cept_codes.specs.Place.{OnScreen};
 ghost use Rattle.cept_codes.specs.Table.{IsTable};
 ghost use Rattle.cept_profile.specs.Edges.{edges_of_core, is_last};
-ghost use Rattle.cept_profile.specs.Look.{look, look_with_part, looks_of, own_look};
-ghost use Rattle.cept_profile.specs.Look.{look_of_origin, own_size, part_of, parts_of};
+ghost use Rattle.cept_profile.specs.Look.{look, looks_of, own_look};
+ghost use Rattle.cept_profile.specs.Look.{own_size, part_of, parts_of};
 ghost use Rattle.cept_profile.specs.RowsFromAbove.{covering, is_covered_otherwise, look_by, look_seen};
-ghost use Rattle.cept_profile.specs.RowsFromAbove.{looks_in, row_from_above};
+ghost use Rattle.cept_profile.specs.RowsFromAbove.{look_of_origin, look_with_part, looks_in, row_from_above};
 ghost use Rattle.cept_profile.specs.State.{Core};
 ghost use Rattle.cept_profile.specs.Tiling.{IsTiled, covers_below, is_covered_from_left, part_at};
 

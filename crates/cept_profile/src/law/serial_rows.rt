@@ -1,24 +1,22 @@
 //! Laws of serial attributes: the nearest marker of a class is in force, and a walk along the row
 //! needs only what counts before a cell.
-ghost use Rattle.std.specs.Prelude.{◌≡◌, ℕ, ◌+◌, ◌≤◌, ◌<◌, Bool, true, false, MatchOption, IfSome};
-ghost use Rattle.std.specs.Prelude.{List};
+ghost use Rattle.std.specs.Prelude.{◌≡◌, ℕ, ◌+◌, ◌≤◌, ◌<◌, false, Option, Some, None, MatchOption, IfSome};
 ghost use Rattle.cept_codes.specs.declared.attribute.Pen.{Pen};
 ghost use Rattle.cept_codes.specs.declared.cell.What.{What};
 ghost use Rattle.cept_codes.specs.Attribute.{IsValidFull, IsValidPen, unset_pen};
 ghost use Rattle.cept_codes.specs.Cell.{IsValidWhat};
 ghost use Rattle.cept_codes.specs.Glyph.{IsValidGlyph};
 ghost use Rattle.cept_profile.specs.Attributes.{cascade};
-ghost use Rattle.cept_profile.specs.Serial.{acts, column_in_force, held_sign, is_marker};
-ghost use Rattle.cept_profile.specs.Serial.{serial_attributes};
+ghost use Rattle.cept_profile.specs.Serial.{held_sign, is_marker, nearest_said, serial_attributes};
 ghost use Rattle.cept_profile.specs.Influence.{influence_after, influence, held_sign_in, influence_in};
 
-/// The marker in force stands in the greatest column in which one of the class acts at the cell;
-/// there is none where none does.
-pub fn the_nearest_marker_is_in_force()
-    ensures { (row : ℕ → What) (class : What → Bool) (c : ℕ)
-        → MatchOption (column_in_force row class c) ((d : ℕ) → 1 ≤ d
-        → acts row class c d ≡ false) (λ d. (1 ≤ d) × (d ≤ c) × (acts row class c d ≡ true)
-        × ((e : ℕ) → d < e → acts row class c e ≡ false)) }
+/// What is in force is what the nearest column says: none between says anything, and where nothing
+/// is in force none does.
+pub fn the_nearest_marker_is_in_force<X>()
+    ensures { (says : ℕ → Option X) (c : ℕ)
+        → MatchOption (nearest_said says c) ((d : ℕ) → 1 ≤ d → d ≤ c → says d ≡ None)
+        (λ x. (d : ℕ) × (1 ≤ d) × (d ≤ c) × (says d ≡ Some x)
+        × ((e : ℕ) → d < e → e ≤ c → says e ≡ None)) }
 {}
 
 /// One more cell needs what counts before it alone: its attributes, the sign that it holds, and

@@ -2,6 +2,7 @@
 -- that are covered from above otherwise than before.
 use Rattle.std.specs.Prelude.{ℕ, ◌+◌, ◌-◌, ◌≡◌, ◌<◌, ◌≤◌, ◌||◌, Bool, true, false, not, List, [], length, Option, Some, None}
 use Rattle.std.specs.List.{count_by, list_any, range_with_len}
+use Rattle.std.specs.Option.{option_map_or}
 use Rattle.cept_codes.specs.declared.look.Look.{Look}
 use Rattle.cept_codes.specs.declared.stroke.Stroke.{Stroke}
 use Rattle.cept_codes.specs.declared.stroke.Stroke.TheVariants as strokes
@@ -9,10 +10,10 @@ use Rattle.cept_codes.specs.Look.{blank_look}
 use Rattle.cept_codes.specs.Place.{OnScreen}
 use Rattle.cept_codes.specs.Same.{same_pen}
 use Rattle.cept_codes.specs.Table.{entry, list_by_index, value_at}
-use Rattle.cept_profile.specs.Cells.{value_after_move}
+use Rattle.cept_profile.specs.Cells.{shifted}
 use Rattle.cept_profile.specs.Edges.{Edges, is_last}
 use Rattle.cept_profile.specs.Look.{look, looks_of}
-use Rattle.cept_profile.specs.MovedRows.{moved_rows, row_before}
+use Rattle.cept_profile.specs.MovedRows.{MovedRows, moved_rows, row_before}
 use Rattle.cept_profile.specs.PageParts.{row_pen_in}
 use Rattle.cept_profile.specs.Reach.{is_written, just_one, writes}
 use Rattle.cept_profile.specs.RowsFromAbove.{is_covered_otherwise, look_seen}
@@ -39,7 +40,8 @@ written_if writes row = record { from = row.from; written = writes || row.writte
 
 -- the rows after one stroke more, by what they were before it
 abbrev pub followed_after : Stroke → (ℕ → Followed) → ℕ → Followed
-followed_after stroke was r = written_if (writes stroke r) (value_after_move (moved_rows stroke) freed was r)
+followed_after stroke was r = written_if (writes stroke r)
+    (option_map_or (λ (m : MovedRows). shifted m.way m.first m.last freed was r) (moved_rows stroke) (was r))
 
 -- rows none of which moved and in none of which a stroke writes
 abbrev pub at_rest : List Followed

@@ -1,7 +1,7 @@
 -- Places of a row, kept one after the other (own).
-use Rattle.std.specs.Prelude.{ℕ, ◌≡◌, ◌≤◌, ◌<◌, ◌+◌, Bool, false, List}
+use Rattle.std.specs.Prelude.{ℕ, ◌≡◌, ◌≤◌, ◌<◌, ◌+◌, Bool, false, None, List}
 use Rattle.cept_codes.specs.declared.look.Look.{Look}
-use Rattle.cept_profile.specs.Look.{part_of, shape_of}
+use Rattle.cept_profile.specs.Look.{part_of, shape_in}
 use Rattle.cept_profile.specs.Serial.{row_in}
 use Rattle.cept_profile.specs.Tiling.{is_covered_from_left}
 use Rattle.cept_rows.specs.declared.drawing.Drawing.{Drawing}
@@ -15,7 +15,7 @@ use Rattle.cept_rows.specs.Source.{Source, place_made, row_made}
 
 -- the drawing of what stands in a column
 abbrev pub own_drawing : Source → ℕ → Drawing
-own_drawing source c = drawing_of (shape_of source.defined (row_in source.cells c))
+own_drawing source c = drawing_of (shape_in source.defined (row_in source.cells c) None)
 
 -- a look with its drawing in a column
 abbrev pub with_drawn : List Look → ℕ → SmallLook → Drawing → List Look

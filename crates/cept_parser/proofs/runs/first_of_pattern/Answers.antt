@@ -1,7 +1,7 @@
 use Rattle.std.proofs.Common.{◌≡◌, true, ltb, [], ◌∷◌, refl, sym, ◌∙◌}
 use Rattle.std.proofs.lemmas.Bool.{and_parts}
 use Rattle.cept_drcs.specs.Unit.{is_pattern}
-use Rattle.cept_parser.specs.Runs.{starts_pattern}
+use Rattle.cept_parser.specs.Fit.{starts_pattern}
 use Rattle.cept_parser.proofs.PatternLemmas.{start_grows}
 use Rattle.cept_parser.proofs.runs.first_of_pattern.Goals as goal
 

@@ -1,7 +1,6 @@
 use Rattle.std.proofs.Common.{[], ◌∷◌, ◌++◌, sym, ◌∙◌, ap}
 use Rattle.cept_codes.specs.declared.look.Look.{Look}
-use Rattle.cept_report.specs.Front.{front_text}
-use Rattle.cept_report.specs.Screen.{cell_line}
+use Rattle.cept_report.specs.Front.{cell_line, front_text}
 use Rattle.cept_report.specs.Text.{fields_text, shape_text}
 use Rattle.cept_report.proofs.TextsGathered.{line-is, Gathers-line, Gathers-line_failed}
 use Rattle.std.proofs.lemmas.Result.{err_from_is_err_and}

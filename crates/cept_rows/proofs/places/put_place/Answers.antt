@@ -1,7 +1,8 @@
 -- Each of the four cases: covered from above, covered from the left, of single size, of another size.
 use Rattle.std.proofs.Common.{◌≡◌, ◌+◌, ◌-◌, ◌&&◌, ltb, refl, sym, ap, subst, ◌∙◌, not}
 use Rattle.cept_codes.specs.Look.{IsValidLook}
-use Rattle.cept_profile.specs.Look.{look_with_part, part_of}
+use Rattle.cept_profile.specs.Look.{part_of}
+use Rattle.cept_profile.specs.RowsFromAbove.{look_with_part}
 use Rattle.cept_profile.specs.Serial.{row_in}
 use Rattle.cept_profile.specs.Tiling.{covers_below, is_high, is_wide, origin_part}
 use Rattle.cept_profile.specs.Tiling.{single_part}

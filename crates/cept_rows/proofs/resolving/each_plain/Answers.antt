@@ -1,7 +1,7 @@
-use Rattle.std.proofs.Common.{◌≡◌, ℕ, ◌-◌, ◌≤◌, false, refl, sym, ap, subst, ◌∙◌, arith, rules}
+use Rattle.std.proofs.Common.{◌≡◌, ℕ, ◌-◌, ◌≤◌, false, None, refl, sym, ap, subst, ◌∙◌, arith, rules}
 use Rattle.cept_codes.specs.declared.cell.What.{What}
 use Rattle.cept_codes.specs.Look.{IsValidLook, blank_look}
-use Rattle.cept_profile.specs.Look.{sets_double_size, shape_of}
+use Rattle.cept_profile.specs.Look.{sets_double_size, shape_in}
 use Rattle.cept_profile.specs.PageParts.{paint_in}
 use Rattle.cept_profile.specs.Serial.{is_marker, own_attributes_of, row_in}
 use Rattle.cept_profile.specs.Tiling.{covers_below}
@@ -42,7 +42,7 @@ here : (c : After-small_among) → c.small_among.result ≡ small_of (own_look c
 here c =
     let source = c.args.source.now in
     c.small_among.ensures.look
-    ∙ ap (λ (w : What). small_shape source (shape_of source.defined w)
+    ∙ ap (λ (w : What). small_shape source (shape_in source.defined w None)
     (own_attributes_of w source.row_pen source.screen_pen (attributes_by source unset_pen))) (there c)
     ∙ ap small_of (look_alone source.defined (row_in source.cells) source.row_pen source.screen_pen
     c.loop-number.number c.loop-number.auto.number (markers c))

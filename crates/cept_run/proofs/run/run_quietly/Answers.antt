@@ -6,9 +6,9 @@ use Rattle.cept_run.proofs.run.run_quietly.Goals as goal
 pub returns-clause-read_fault : goal.returns-clause-read_fault
 returns-clause-read_fault g c = λ is.
     ended _ _ _ statuses.ReadFault ⊥ (λ e. cc) (rw is at c.run.ensures)
-    (λ course ends. absurd (omega (arith, ends.read_fault)))
+    (λ course ends. absurd (omega (arith, ends.0)))
 
 pub returns-clause-write_fault : goal.returns-clause-write_fault
 returns-clause-write_fault g c = λ is.
     ended _ _ _ statuses.WriteFault ⊥ (λ e. cc) (rw is at c.run.ensures)
-    (λ course ends. absurd (omega (arith, ends.write_fault)))
+    (λ course ends. absurd (omega (arith, ends.0)))

@@ -1,8 +1,7 @@
 use Rattle.std.proofs.Common.{◌≡◌, Option, Some, sym, ap, ◌∙◌}
 use Rattle.cept_codes.specs.declared.glyph.Glyph.{Glyph}
 use Rattle.cept_profile.specs.Control.{ControlState, control_with}
-use Rattle.cept_profile.specs.Writing.{working_after_repeat}
-use Rattle.cept_profile.proofs.Laws.{control_with-control_after_copies}
+use Rattle.cept_profile.proofs.Laws.{working_after_repeat}
 use Rattle.cept_control.specs.declared.control.Control.TheInside.{Inside}
 use Rattle.cept_control.proofs.control.Control.repeat_last.Goals as goal
 
@@ -12,6 +11,5 @@ returns-in-Some-clause-state c =
     ap (λ (s : ControlState). s.working.last) (sym c.self.view_is)
     ∙ ap (λ (s : Inside). s.working.last) (sym c.self-inside.view_is) ∙ c.in-Some.is in
     c.write_copies.ensures.state
-    ∙ sym (control_with-control_after_copies c.args.count c.args.self.now c.in-Some.sign)
     ∙ ap (λ (sign : Option Glyph). control_with c.args.self.now
     (working_after_repeat c.args.count c.args.self.now sign)) (sym last)

@@ -2,7 +2,7 @@ use Rattle.std.proofs.Common.{ℕ, List, ap, ◌∙◌}
 use Rattle.std.proofs.lemmas.Bool.{both_ways}
 use Rattle.cept_parser.specs.Fit.{Answer}
 use Rattle.cept_parser.specs.Grammar.{unit}
-use Rattle.cept_parser.specs.Items.{said_at_end}
+use Rattle.cept_parser.specs.inside.Waits.{said_at_end}
 use Rattle.cept_parser.proofs.OneByteMoreLemmas.{end_answer}
 use Rattle.cept_parser.proofs.ReaderLemmas.{beside_free, loaded, loaded_end}
 use Rattle.cept_parser.proofs.reader.Reader.said_at_end.Goals as goal

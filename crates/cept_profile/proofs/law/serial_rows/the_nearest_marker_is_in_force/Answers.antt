@@ -1,5 +1,5 @@
-use Rattle.cept_profile.proofs.MarkersInForce.{marker_in_force}
+use Rattle.cept_profile.proofs.MarkersInForce.{nearest}
 use Rattle.cept_profile.proofs.law.serial_rows.the_nearest_marker_is_in_force.Goals as goal
 
 pub returns : goal.returns
-returns c = marker_in_force
+returns g c = nearest

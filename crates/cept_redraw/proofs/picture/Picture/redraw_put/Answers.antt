@@ -10,7 +10,8 @@ use Rattle.cept_page.specs.Behind.{page_behind}
 use Rattle.cept_redraw.specs.inside.Due.{FollowsBeside, LeftStays}
 use Rattle.cept_redraw.specs.Kept.{AreLooksOn, core_on}
 use Rattle.cept_redraw.specs.Named.{AreNamedOn}
-use Rattle.cept_redraw.specs.Picture.{AreTicksOf, IsKeptOn, IsRedrawn, put_alone}
+use Rattle.cept_control.specs.SignWithin.{put_alone}
+use Rattle.cept_redraw.specs.Picture.{AreTicksOf, IsKeptOn, IsRedrawn}
 use Rattle.cept_redraw.proofs.AloneRows.{OthersStay-put}
 use Rattle.cept_redraw.proofs.BesideOfColumns.{FollowsBeside-put}
 use Rattle.cept_redraw.proofs.DrawnPictures.{AreOthersKept-put, AreTicksOf-put}
@@ -30,68 +31,66 @@ refresh_place-requires-clause-valid g c =
     (sym (page_after-put_alone c.args.self.now.page c.put.new.self (put_alone c.args.put.now) c.args.put.now.place
     c.args.put.now.cell refl c.put.ensures.drawn)) c.requires.strokes.valid
 
-pub returns-then-put-clause-redrawn : goal.returns-then-put-clause-redrawn
-returns-then-put-clause-redrawn g c =
-    let put = c.args.put.now in
-    let drawn = page_after-put_alone c.args.self.now.page c.put.new.self (put_alone c.args.put.now) put.place put.cell
-    refl c.put.ensures.drawn in
-    let after = c.refresh_place.ensures.page ∙ drawn in
-    let alone = IsPutAlone-drawn c.args.self.now.page c.put.new.self (put_alone c.args.put.now) put.place put.cell
-    refl c.put.ensures.drawn c.refresh_place.ensures.on_screen (c.put.ensures.before c.if-put.true)
-    (c.put.ensures.after c.if-put.true) c.requires.kept.valid c.requires.strokes.each c.requires.strokes.valid in
-    let valid : IsValidPage c.put.new.self = subst (λ (p : Page). IsValidPage p) (sym drawn) c.requires.strokes.valid in
-    let still = sym c.refresh_place.ensures.page in
-    record {
-      page = after;
-      kept = record {
-        valid = subst (λ (p : Page). IsValidPage p) (sym after) c.requires.strokes.valid;
-        of_core = c.requires.kept.of_core;
-        looks = subst (λ (p : Page). AreLooksOn c.refresh_place.new.self.looks p (edges_of c.args.control.now)) still
-            (λ k same. c.refresh_place.ensures.kept k
-            (OthersStay-put c.args.self.now.page c.put.new.self k c.args.self.now.looks put.place
-            (c.requires.kept.looks k same) alone));
-        named = subst (λ (p : Page). AreNamedOn c.refresh_place.new.self.names p (edges_of c.args.control.now)) still
-            (AreNamedOn-put c.args.self.now.page c.put.new.self (put_alone c.args.put.now) put.place put.cell
-            (edges_of c.args.control.now) c.args.self.now.looks c.args.self.now.names c.refresh_place.new.self.names
-            c.requires.kept.valid valid c.requires.strokes.each c.requires.kept.of_core c.requires.kept.named
-            c.requires.kept.looks refl drawn
-            (λ k same. OthersStay-put c.args.self.now.page c.put.new.self k c.args.self.now.looks put.place
-            (c.requires.kept.looks k same) alone)
-            c.refresh_place.ensures.remembered.remembered);
+pub returns-then-put : goal.returns-then-put
+returns-then-put g c = record {
+  redrawn =
+      let put = c.args.put.now in
+      let drawn = page_after-put_alone c.args.self.now.page c.put.new.self (put_alone c.args.put.now) put.place put.cell
+      refl c.put.ensures.drawn in
+      let after = c.refresh_place.ensures.page ∙ drawn in
+      let alone = IsPutAlone-drawn c.args.self.now.page c.put.new.self (put_alone c.args.put.now) put.place put.cell
+      refl c.put.ensures.drawn c.refresh_place.ensures.on_screen (c.put.ensures.before c.if-put.true)
+      (c.put.ensures.after c.if-put.true) c.requires.kept.valid c.requires.strokes.each c.requires.strokes.valid in
+      let valid : IsValidPage c.put.new.self = subst (λ (p : Page). IsValidPage p) (sym drawn) c.requires.strokes.valid in
+      let still = sym c.refresh_place.ensures.page in
+      record {
+        page = after;
+        kept = record {
+          valid = subst (λ (p : Page). IsValidPage p) (sym after) c.requires.strokes.valid;
+          of_core = c.requires.kept.of_core;
+          looks = subst (λ (p : Page). AreLooksOn c.refresh_place.new.self.looks p (edges_of c.args.control.now)) still
+              (λ k same. c.refresh_place.ensures.kept k
+              (OthersStay-put c.args.self.now.page c.put.new.self k c.args.self.now.looks put.place
+              (c.requires.kept.looks k same) alone));
+          named = subst (λ (p : Page). AreNamedOn c.refresh_place.new.self.names p (edges_of c.args.control.now)) still
+              (AreNamedOn-put c.args.self.now.page c.put.new.self (put_alone c.args.put.now) put.place put.cell
+              (edges_of c.args.control.now) c.args.self.now.looks c.args.self.now.names c.refresh_place.new.self.names
+              c.requires.kept.valid valid c.requires.strokes.each c.requires.kept.of_core c.requires.kept.named
+              c.requires.kept.looks refl drawn
+              (λ k same. OthersStay-put c.args.self.now.page c.put.new.self k c.args.self.now.looks put.place
+              (c.requires.kept.looks k same) alone)
+              c.refresh_place.ensures.remembered.remembered);
+        };
+        marks = c.refresh_place.ensures.marks;
       };
-      marks = c.refresh_place.ensures.marks;
-    }
-
-pub returns-then-put-clause-ticks : goal.returns-then-put-clause-ticks
-returns-then-put-clause-ticks g c =
-    let put = c.args.put.now in
-    let alone = IsPutAlone-drawn c.args.self.now.page c.put.new.self (put_alone c.args.put.now) put.place put.cell
-    refl c.put.ensures.drawn c.refresh_place.ensures.on_screen (c.put.ensures.before c.if-put.true)
-    (c.put.ensures.after c.if-put.true) c.requires.kept.valid c.requires.strokes.each c.requires.strokes.valid in
-    let core = c.requires.kept.of_core.0 in
-    let others = OthersStay-put c.args.self.now.page c.put.new.self core c.args.self.now.looks put.place
-    (c.requires.kept.looks core c.requires.kept.of_core.1) alone in
-    record {
-      cost = λ k m ek em. omega (
-        arith,
-        c.refresh_place.ensures.cost,
-        put-resolved put.place put.cell (put_alone c.args.put.now) (core_on k c.args.self.now.page)
-            (core_on m c.refresh_place.new.self.page) refl c.refresh_place.ensures.on_screen,
-      );
-      least = omega (
-        arith,
-        c.refresh_place.ensures.cost,
-        rows_renewed-put put.place put.cell (put_alone c.args.put.now) c.args.self.now.looks
-            c.refresh_place.new.self.looks (core_on core c.put.new.self) refl
-            (c.refresh_place.ensures.kept core others) others,
-      );
-    }
-
-pub returns-then-put-clause-noted : goal.returns-then-put-clause-noted
-returns-then-put-clause-noted g c =
-    IsNotedAlong-one {x = strokes.Put c.args.put.now.place c.args.put.now.cell} (put_alone c.args.put.now) refl
-    (ap (λ (p : Page). page_behind (g.N.Noter.noted c.put.new.noter) p) c.refresh_place.ensures.page
-    ∙ c.put.ensures.unwound) c.put.ensures.noted
+  ticks =
+      let put = c.args.put.now in
+      let alone = IsPutAlone-drawn c.args.self.now.page c.put.new.self (put_alone c.args.put.now) put.place put.cell
+      refl c.put.ensures.drawn c.refresh_place.ensures.on_screen (c.put.ensures.before c.if-put.true)
+      (c.put.ensures.after c.if-put.true) c.requires.kept.valid c.requires.strokes.each c.requires.strokes.valid in
+      let core = c.requires.kept.of_core.0 in
+      let others = OthersStay-put c.args.self.now.page c.put.new.self core c.args.self.now.looks put.place
+      (c.requires.kept.looks core c.requires.kept.of_core.1) alone in
+      record {
+        cost = λ k m ek em. omega (
+          arith,
+          c.refresh_place.ensures.cost,
+          put-resolved put.place put.cell (put_alone c.args.put.now) (core_on k c.args.self.now.page)
+              (core_on m c.refresh_place.new.self.page) refl c.refresh_place.ensures.on_screen,
+        );
+        least = omega (
+          arith,
+          c.refresh_place.ensures.cost,
+          rows_renewed-put put.place put.cell (put_alone c.args.put.now) c.args.self.now.looks
+              c.refresh_place.new.self.looks (core_on core c.put.new.self) refl
+              (c.refresh_place.ensures.kept core others) others,
+        );
+      };
+  noted =
+      IsNotedAlong-one {x = strokes.Put c.args.put.now.place c.args.put.now.cell} (put_alone c.args.put.now) refl
+      (ap (λ (p : Page). page_behind (g.N.Noter.noted c.put.new.noter) p) c.refresh_place.ensures.page
+      ∙ c.put.ensures.unwound) c.put.ensures.noted;
+}
 
 -- ---- a row from a place on
 
@@ -140,30 +139,28 @@ refresh_put-requires g c = record {
       c.args.put.now.cell refl c.put.ensures.drawn) c.row-row.result c.row-row.ensures.row;
 }
 
-pub returns-else-put-clause-redrawn : goal.returns-else-put-clause-redrawn
-returns-else-put-clause-redrawn g c =
-    subst (λ (e : Edges). IsRedrawn (put_alone c.args.put.now) e c.args.self.now c.refresh_put.new.self c.refresh_put.new.marks)
-    c.edges-edges.ensures
-    (IsRedrawn-put (subst (λ (e : Edges). IsKeptOn c.args.self.now e) (sym c.edges-edges.ensures) c.requires.kept)
-    c.requires.strokes c.args.put.now.place c.args.put.now.cell refl
-    (c.refresh_put.ensures.page
-    ∙ page_after-put_alone c.args.self.now.page c.put.new.self (put_alone c.args.put.now) c.args.put.now.place
-    c.args.put.now.cell refl c.put.ensures.drawn) c.row-row.result c.row-row.ensures.row
-    c.refresh_put.new.marks c.refresh_put.ensures.refreshed c.refresh_put.ensures.remembered.remembered)
-
-pub returns-else-put-clause-ticks : goal.returns-else-put-clause-ticks
-returns-else-put-clause-ticks g c =
-    subst (λ (e : Edges). AreTicksOf (put_alone c.args.put.now) e e c.args.self.now c.refresh_put.new.self c.args.steps.now
-    c.refresh_put.new.steps) c.edges-edges.ensures
-    (AreTicksOf-put (subst (λ (e : Edges). IsKeptOn c.args.self.now e) (sym c.edges-edges.ensures) c.requires.kept)
-    c.requires.strokes c.args.put.now.place c.args.put.now.cell refl
-    (c.refresh_put.ensures.page
-    ∙ page_after-put_alone c.args.self.now.page c.put.new.self (put_alone c.args.put.now) c.args.put.now.place
-    c.args.put.now.cell refl c.put.ensures.drawn) c.row-row.result c.row-row.ensures.row
-    c.refresh_put.new.marks c.refresh_put.ensures.refreshed)
-
-pub returns-else-put-clause-noted : goal.returns-else-put-clause-noted
-returns-else-put-clause-noted g c =
-    IsNotedAlong-one {x = strokes.Put c.args.put.now.place c.args.put.now.cell} (put_alone c.args.put.now) refl
-    (ap (λ (p : Page). page_behind (g.N.Noter.noted c.put.new.noter) p) c.refresh_put.ensures.page
-    ∙ c.put.ensures.unwound) c.put.ensures.noted
+pub returns-else-put : goal.returns-else-put
+returns-else-put g c = record {
+  redrawn =
+      subst (λ (e : Edges). IsRedrawn (put_alone c.args.put.now) e c.args.self.now c.refresh_put.new.self c.refresh_put.new.marks)
+      c.edges-edges.ensures
+      (IsRedrawn-put (subst (λ (e : Edges). IsKeptOn c.args.self.now e) (sym c.edges-edges.ensures) c.requires.kept)
+      c.requires.strokes c.args.put.now.place c.args.put.now.cell refl
+      (c.refresh_put.ensures.page
+      ∙ page_after-put_alone c.args.self.now.page c.put.new.self (put_alone c.args.put.now) c.args.put.now.place
+      c.args.put.now.cell refl c.put.ensures.drawn) c.row-row.result c.row-row.ensures.row
+      c.refresh_put.new.marks c.refresh_put.ensures.refreshed c.refresh_put.ensures.remembered.remembered);
+  ticks =
+      subst (λ (e : Edges). AreTicksOf (put_alone c.args.put.now) e e c.args.self.now c.refresh_put.new.self c.args.steps.now
+      c.refresh_put.new.steps) c.edges-edges.ensures
+      (AreTicksOf-put (subst (λ (e : Edges). IsKeptOn c.args.self.now e) (sym c.edges-edges.ensures) c.requires.kept)
+      c.requires.strokes c.args.put.now.place c.args.put.now.cell refl
+      (c.refresh_put.ensures.page
+      ∙ page_after-put_alone c.args.self.now.page c.put.new.self (put_alone c.args.put.now) c.args.put.now.place
+      c.args.put.now.cell refl c.put.ensures.drawn) c.row-row.result c.row-row.ensures.row
+      c.refresh_put.new.marks c.refresh_put.ensures.refreshed);
+  noted =
+      IsNotedAlong-one {x = strokes.Put c.args.put.now.place c.args.put.now.cell} (put_alone c.args.put.now) refl
+      (ap (λ (p : Page). page_behind (g.N.Noter.noted c.put.new.noter) p) c.refresh_put.ensures.page
+      ∙ c.put.ensures.unwound) c.put.ensures.noted;
+}

@@ -4,7 +4,7 @@ use Rattle.cept_profile.specs.Edges.{edges_of}
 use Rattle.cept_profile.specs.State.{State}
 use Rattle.cept_profile.specs.Strokes.{strokes_of}
 use Rattle.cept_profile.proofs.Laws.{IsValidStroke-strokes_of}
-use Rattle.cept_redraw.specs.Picture.{put_alone}
+use Rattle.cept_control.specs.SignWithin.{put_alone}
 use Rattle.cept_repaint.specs.Kept.{IsKept, state_of_parts}
 use Rattle.cept_repaint.specs.inside.Applied.{IsWrittenAlong}
 use Rattle.cept_repaint.proofs.KeptPictures.{AreDrawable-command, IsKept-redrawn, IsKeptOn-state, IsNotedAlong-command}
@@ -13,17 +13,20 @@ use Rattle.cept_repaint.proofs.screen.Screen.write.Goals as goal
 
 -- ---- a sign
 
-pub redraw_put-requires-clause-kept : goal.redraw_put-requires-clause-kept
-redraw_put-requires-clause-kept g c =
-    IsKeptOn-state {picture = c.self.inside.picture} {c = c.self.inside.control} c.self.invariant
-    (edges_of c.step_sign.new.self) c.step_sign.ensures.edges
-
-pub redraw_put-requires-clause-strokes : goal.redraw_put-requires-clause-strokes
-redraw_put-requires-clause-strokes g c =
-    AreDrawable-command c.self.inside.picture.page c.self.inside.control c.self.invariant.valid c.args.command.now
-    c.requires (put_alone c.in-Some.put) (strokes_of c.self.inside.control c.args.command.now)
-    (sym c.in-Some.ensures.strokes)
-    (IsValidStroke-strokes_of c.self.inside.control c.args.command.now c.self.invariant.valid.control c.requires) refl
+pub redraw_put-requires : goal.redraw_put-requires
+redraw_put-requires g c =
+    let kept = IsKeptOn-state {picture = c.self.inside.picture} {c = c.self.inside.control} c.self.invariant
+    (edges_of c.step_sign.new.self) c.step_sign.ensures.edges in
+    record {
+      kept = kept;
+      to = kept.of_core;
+      strokes =
+          AreDrawable-command c.self.inside.picture.page c.self.inside.control c.self.invariant.valid c.args.command.now
+          c.requires (put_alone c.in-Some.put) (strokes_of c.self.inside.control c.args.command.now)
+          (sym c.in-Some.ensures.strokes)
+          (IsValidStroke-strokes_of c.self.inside.control c.args.command.now c.self.invariant.valid.control c.requires)
+          refl;
+    }
 
 pub returns-in-Some : goal.returns-in-Some
 returns-in-Some g c = record {

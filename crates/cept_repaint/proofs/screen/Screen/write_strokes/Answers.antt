@@ -6,16 +6,18 @@ use Rattle.cept_repaint.proofs.KeptPictures.{IsWritten-redrawn}
 use Rattle.cept_repaint.proofs.MovedEdges.{edges-stay}
 use Rattle.cept_repaint.proofs.screen.Screen.write_strokes.Goals as goal
 
-pub redraw_within-requires-clause-kept : goal.redraw_within-requires-clause-kept
-redraw_within-requires-clause-kept g c =
-    IsKeptOn-state {picture = c.self.inside.picture} {c = c.self.inside.control} c.self.invariant (edges_of c.step_into.new.self)
-    (edges-stay c.self.inside.control c.args.command.now c.step_into.new.self (sym c.may_move_edges.ensures ∙ c.if-may_move_edges.false) c.step_into.ensures.state)
-
-pub redraw_within-requires-clause-strokes : goal.redraw_within-requires-clause-strokes
-redraw_within-requires-clause-strokes g c =
-    AreDrawable-command c.self.inside.picture.page c.self.inside.control c.self.invariant.valid c.args.command.now
-    c.requires c.as_slice-strokes.result.now _
-    c.as_slice-strokes.ensures.value c.step_into.ensures.valid_strokes c.step_into.ensures.strokes
+pub redraw_within-requires : goal.redraw_within-requires
+redraw_within-requires g c =
+    let kept = IsKeptOn-state {picture = c.self.inside.picture} {c = c.self.inside.control} c.self.invariant (edges_of c.step_into.new.self)
+    (edges-stay c.self.inside.control c.args.command.now c.step_into.new.self (sym c.may_move_edges.ensures ∙ c.if-may_move_edges.false) c.step_into.ensures.state) in
+    record {
+      kept = kept;
+      to = kept.of_core;
+      strokes =
+          AreDrawable-command c.self.inside.picture.page c.self.inside.control c.self.invariant.valid c.args.command.now
+          c.requires c.as_slice-strokes.result.now _
+          c.as_slice-strokes.ensures.value c.step_into.ensures.valid_strokes c.step_into.ensures.strokes;
+    }
 
 pub returns : goal.returns
 returns g c = record {
