@@ -73,15 +73,6 @@ export function numbers(key, from, to, value) {
 }
 
 /**
- * The value of a field of numbers within its range.
- * @param {HTMLInputElement} field
- */
-export function numberIn(field) {
-  const value = Math.round(Number(field.value));
-  return Math.min(Number(field.max), Math.max(Number(field.min), Number.isFinite(value) ? value : Number(field.min)));
-}
-
-/**
  * Of a list of elements one can be reached by Tab, and the others from it by the arrow keys. `across` is how many stand in a row.
  * @param {HTMLElement[]} list
  * @param {number} [across]

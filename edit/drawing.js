@@ -3,6 +3,7 @@
 import { COLUMNS, ROWS, readCells } from "./shared.js";
 import { speak, word } from "./words.js";
 import { BadLine } from "./faults.js";
+import { whyBad } from "./grammar.js";
 import { inGrammar, raw, sameBytes } from "./lines.js";
 import { Steps, kindOf } from "./steps.js";
 import { button, group, inLine, make, part, rove } from "./controls.js";
@@ -23,6 +24,8 @@ import { button, group, inLine, make, part, rove } from "./controls.js";
 export const POINTS_WIDE = 80;
 export const POINTS_TALL = 72;
 const TOOLS = ["point", "line", "box", "unplot", "wipe"];
+// So many cells or lines are told by their places.
+const MOST_TOLD = 8;
 const [LOCK_MOSAIC, LOCK_TEXT, SPACE] = [0x0e, 0x0f, 0x20];
 // Control defaults with the parallel set; implicit scrolling off, and on, as `edit` puts it at the end of its bytes.
 const [DEFAULTS, STILL, ROLLING] = [[0x1f, 0x2f, 0x44], [0x9b, 0x33, 0x60], [0x9b, 0x32, 0x60]];
@@ -41,6 +44,16 @@ const isMosaic = (look) => look.set === "M" && !look.down && !look.right;
 const linesOf = (text) => text.split("\n").map(inGrammar).filter((line) => line !== "");
 /** @param {number} cell */
 const placeOf = (cell) => [Math.floor(cell / COLUMNS) + 1, (cell % COLUMNS) + 1];
+
+/**
+ * The lines of a drawing that have a point below so many points, by their numbers: `plot` draws nothing there.
+ * @param {string[]} lines
+ * @param {number} tall
+ */
+export const linesBelow = (lines, tall) => lines.flatMap((line, at) => {
+  const heights = line.startsWith("#") ? [] : line.split(" ").filter((_, index) => index > 0 && index % 2 === 0);
+  return heights.some((height) => Number(height) >= tall) ? [at + 1] : [];
+});
 
 /**
  * The line of a drawing for a figure of a tool between two points.
@@ -96,8 +109,8 @@ export class Drawing {
     /** @type {Point | null} */
     this.anchor = null;
     /**
-     * What is seen of the drawing: the line that would be kept, and the grid with it.
-     * @type {{ line: string, grid: Uint32Array } | null}
+     * What is seen of the drawing: the line that would be kept, the grid with it, and the cells that show something else than was drawn.
+     * @type {{ line: string, grid: Uint32Array, other: number[] } | null}
      */
     this.drawn = null;
     const disabled = !needs.asker.canPlot;
@@ -277,7 +290,7 @@ export class Drawing {
   }
 
   /**
-   * What the screen shows with the line; the cells that the program shows otherwise than drawn are told.
+   * What the screen shows with the line; the cells that the program shows otherwise than drawn are named.
    * @param {string} line
    * @param {{ cell: number, shape: string }[]} wanted
    */
@@ -287,9 +300,22 @@ export class Drawing {
     const grid = sheet.making.end().slice();
     for (let at = 0; at < count; at++) grid[cells[at]] = numbers[at];
     const other = wanted.filter(({ cell, shape }) => shapeOf(sheet.known.list[grid[cell]]) !== shape);
-    const places = other.slice(0, 8).map(({ cell }) => placeOf(cell).join("/")).join(", ");
-    this.fault(other.length ? word("drawCovered", { places }) : "");
-    return grid;
+    return { line, grid, other: other.map(({ cell }) => cell) };
+  }
+
+  /**
+   * Tells the cells that show something else than was drawn, and the lines of which a part is below the format.
+   * @param {number[]} cells
+   * @param {number[]} lines
+   */
+  tellLost(cells, lines) {
+    const places = cells.slice(0, MOST_TOLD).map((cell) => placeOf(cell).join("/")).join(", ");
+    const numbers = lines.slice(0, MOST_TOLD).join(", ") + (lines.length > MOST_TOLD ? ", …" : "");
+    const said = [
+      cells.length ? word("drawCovered", { places }) : "",
+      lines.length ? word("drawBelow", { rows: this.needs.sheet.rows, lines: numbers }) : "",
+    ];
+    this.fault(said.filter((text) => text).join(" "));
   }
 
   /** @param {string} text */
@@ -325,11 +351,13 @@ export class Drawing {
   tryLine(lines) {
     try {
       const { line, wanted } = this.line(lines);
-      this.drawn = line ? { line, grid: this.preview(line, wanted) } : null;
+      this.drawn = line ? this.preview(line, wanted) : null;
+      this.tellLost(this.drawn ? this.drawn.other : [], linesBelow(lines, this.tall()));
       return true;
     } catch (fault) {
       if (!(fault instanceof BadLine)) throw fault;
-      this.fault(word("drawBad", { ...fault, why: word(fault.name) }));
+      const why = whyBad(fault, lines[fault.line - 1], "drawing", (page) => this.needs.asker.check(page));
+      this.fault(word("drawBad", { ...fault, why }));
       return false;
     }
   }

@@ -19,6 +19,8 @@ import { isBegun } from "./store.js";
 
 const PHASE_TIME = 1000 / PHASES;
 const PAUSE = 250;
+// So long a warning of what is typed stays while it goes on, and until the caret is placed elsewhere.
+const WARNING_TIME = 6000;
 // A script of so many lines is laid out after the pause alone.
 const LONG_SCRIPT = 250;
 const [LEAST_CELL, STILL_CELL] = [7, 24];
@@ -29,6 +31,17 @@ const WRITES_ON = "#pen button, #mosaic button, #draw button, #undo, #redo";
 const NAMES = {
   "000": "black", F00: "red", "0F0": "green", FF0: "yellow", "00F": "blue", F0F: "magenta", "0FF": "cyan", FFF: "white", "---": "picture",
 };
+
+/**
+ * What is said of an undo or a redo, where an action has more edits than the program keeps, or there is none.
+ * @param {"undo" | "redo"} by
+ * @param {{ count: number, most: number }} reach
+ */
+function endOf(by, { count, most }) {
+  if (count === 0) return word(by === "undo" ? "noUndo" : "noRedo");
+  if (most === count) return "";
+  return most > 0 ? word("undonePartly", { count, most }) : word("undoEnds");
+}
 
 class Editor {
   /**
@@ -48,6 +61,8 @@ class Editor {
     this.phases = [];
     // Clocks: of the flash, of the pause after a change, and of what is done once the screen is painted.
     this.flashing = this.waiting = this.later = 0;
+    // Until when typing on leaves a warning.
+    this.warned = 0;
     this.storesPage = false;
     this.ratio = 0;
     // The paints that the panels show.
@@ -87,9 +102,12 @@ class Editor {
       case "mark": return this.typing.act(happening.lines);
       case "write": return this.typing.write(happening.signs);
       case "typed": return this.setScript(happening.text);
-      case "changed": return this.changed();
+      case "figures": return this.draw(happening.text);
+      case "changed": return this.changed(false, false, performance.now() < this.warned);
       case "tidy": return this.tidy();
-      case "moved": return this.moved();
+      case "moved":
+        this.warned = 0;
+        return this.moved();
       case "arrived": return this.announce();
       case "chosen":
         this.typing.end();
@@ -108,7 +126,10 @@ class Editor {
       case "cut": return this.cut(happening);
       case "taken": return this.open(happening.kept);
       case "named": return this.show();
-      default: return this.tell(happening.text, happening.isFault);
+      default:
+        this.tell(happening.text, happening.isFault);
+        if (happening.lasts) this.warned = performance.now() + WARNING_TIME;
+        return undefined;
     }
   }
 
@@ -118,6 +139,7 @@ class Editor {
    * @param {boolean} [isFault]
    */
   tell(text, isFault = false) {
+    this.warned = 0;
     say("fault", isFault ? text : "");
     say("state", text);
     say("note", isFault ? "" : text);
@@ -142,6 +164,15 @@ class Editor {
   finish() {
     this.drawing.keep();
     this.pattern.finish();
+  }
+
+  /**
+   * Draws the lines of a file, after those of the drawing that is under way.
+   * @param {string} text
+   */
+  draw(text) {
+    part("tab-draw").click();
+    if (this.asker.canPlot) this.drawing.goOn(`${this.drawing.underWay()}\n${text}`);
   }
 
   /** @param {import("./store.js").Kept} kept */
@@ -198,12 +229,14 @@ class Editor {
   }
 
   /**
-   * Undo and redo by a key or a button: in the script's field of what was written there, else of what is drawn, and then of actions.
+   * Undo and redo by a key or a button: in the script's field of what was written there, else of what is drawn, or of the tidying that was done
+   * last, and then of actions.
    * @param {"undo" | "redo"} by
    * @param {boolean} [inScript]
    */
   undoRedo(by, inScript = false) {
-    const isDone = inScript ? this.script.undoRedo(by) : this.drawing.undoRedo(by);
+    this.script.settle();
+    const isDone = inScript ? this.script.undoRedo(by) : this.drawing.undoRedo(by) || (by === "undo" && this.script.undoTidying());
     if (!isDone) this.undoRedoAction(by);
   }
 
@@ -211,33 +244,35 @@ class Editor {
   undoRedoAction(by) {
     if (!this.ready()) return;
     this.typing.end();
-    const begun = by === "undo" ? this.sheet.beginning() : null;
+    const reach = this.sheet.reach(by);
+    const begun = by === "undo" && reach.most === reach.count ? this.sheet.beginning() : null;
     const isCut = this.cuts.undoRedo(by);
     const done = isCut || this.sheet.undoRedo(by);
     if (isCut) this.isOther();
     if (done) this.typing.arrive(null);
     if (done && begun && !isCut) this.typing.place(...begun);
     this.changed(false, isCut);
-    if (!done) this.tell(word(by === "undo" ? "noUndo" : "noRedo"));
+    if (!isCut) this.tell(endOf(by, reach));
   }
 
   tidy() {
     if (!this.ready()) return;
     this.typing.leave();
-    const done = this.sheet.tidy();
+    const [before, done] = [this.sheet.script(), this.script.tidy()];
     this.changed();
-    this.tell(word(done ? "tidied" : "tidyKept"));
+    this.tell(word(!done ? "tidyKept" : this.sheet.script() === before ? "tidyNothing" : "tidied"));
   }
 
   /**
    * After each change of the script, and of the stored page.
    * @param {boolean} [typed]
    * @param {boolean} [isCut]
+   * @param {boolean} [isWarned]
    */
-  changed(typed = false, isCut = false) {
+  changed(typed = false, isCut = false, isWarned = false) {
     this.script.toEnd();
     this.listing.toEnd();
-    this.tell("");
+    if (!isWarned) this.tell("");
     this.storesPage = this.storesPage || isCut;
     this.typing.bound();
     this.drawing.again();
@@ -340,17 +375,20 @@ class Editor {
   tellPlace() {
     const { row, column } = this.typing;
     this.listing.mark(this.pointed, this.typing.cell());
-    if (this.pointed < 0) {
-      say("where", word("whereTyping", { row, column }));
-      return;
-    }
+    if (this.pointed < 0) return this.sayPlace(word("whereTyping", { row, column }));
     const look = this.lookOf(this.pointed);
     const place = word("where", { row: Math.floor(this.pointed / COLUMNS) + 1, column: (this.pointed % COLUMNS) + 1 });
     const lines = this.script.step === null ? Infinity : this.script.step;
     const line = this.listing.step === null ? this.sheet.making.lineOf(this.pointed, lines) : 0;
     const { rows } = this.sheet;
     const what = this.pointed < rows * COLUMNS ? look.text : word("beyond", { rows });
-    say("where", `${place}: ${what}${line ? ` (${word("madeBy", { line })})` : ""}`);
+    return this.sayPlace(`${place}: ${what}${line ? ` (${word("madeBy", { line })})` : ""}`);
+  }
+
+  /** @param {string} text */
+  sayPlace(text) {
+    say("where", text);
+    part("where").title = text;
   }
 
   /** @param {number} cell */
@@ -533,8 +571,11 @@ function joinScreen(editor) {
     }
     const cell = screen.cellAt(event.clientX, event.clientY);
     if (cell < 0) return;
-    typing.place(Math.floor(cell / COLUMNS) + 1, (cell % COLUMNS) + 1);
-    editor.moved();
+    const row = Math.floor(cell / COLUMNS) + 1;
+    const { rows } = editor.sheet;
+    if (row > rows) return editor.tell(word("placeBeyond", { rows }));
+    typing.place(row, (cell % COLUMNS) + 1);
+    editor.happened({ kind: "moved" });
   });
   box.addEventListener("pointermove", (/** @type {PointerEvent} */ event) => {
     if (drawing.drawing()) drawing.moveTo(pointAt(event));
@@ -576,16 +617,26 @@ function onInput(editor, event) {
   const by = event.inputType === "historyUndo" ? "undo" : event.inputType === "historyRedo" ? "redo" : null;
   if (!by) return;
   event.preventDefault();
-  editor.script.settle();
   editor.undoRedo(by, event.target === part("script"));
+}
+
+/**
+ * The buttons undo and redo what the keys would: before the click the focus stays where it is, and in the script after it too.
+ * @param {Editor} editor
+ * @param {"undo" | "redo"} by
+ */
+function joinUndo(editor, by) {
+  const one = part(by);
+  one.addEventListener("mousedown", (/** @type {Event} */ event) => event.preventDefault());
+  one.addEventListener("click", () => editor.undoRedo(by, document.activeElement === part("script")));
 }
 
 /** @param {Editor} editor */
 function joinControls(editor) {
   /** @type {(id: string, kind: string, act: () => void) => void} */
   const on = (id, kind, act) => part(id).addEventListener(kind, act);
-  on("undo", "click", () => editor.undoRedo("undo"));
-  on("redo", "click", () => editor.undoRedo("redo"));
+  joinUndo(editor, "undo");
+  joinUndo(editor, "redo");
   on("help", "click", () => part("help-part").showModal());
   on("help-close", "click", () => part("help-part").close());
   on("language", "change", () => editor.speak(part("language").value));
@@ -597,10 +648,10 @@ function joinControls(editor) {
   on("reveal", "change", () => editor.screen.turn(0, part("reveal").checked));
   document.addEventListener("keydown", (event) => onKey(editor, event));
   document.addEventListener("beforeinput", (event) => onInput(editor, event));
-  // After a click of the mouse on a tool the keys go on writing.
+  // After a click of the mouse on a tool the keys go on writing, and in the script after one that undoes there.
   document.addEventListener("click", (event) => {
     const writesOn = event.target instanceof Element && event.target.closest(WRITES_ON);
-    if (event.detail > 0 && writesOn) part("typing").focus({ preventScroll: true });
+    if (event.detail > 0 && writesOn && document.activeElement !== part("script")) part("typing").focus({ preventScroll: true });
   });
   // Where the program ends without an answer, as for a script that is too long, its status is said.
   window.addEventListener("error", (event) => {

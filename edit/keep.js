@@ -25,29 +25,25 @@ const IS_DRAWING = /\.drawing$/i;
 const TURNS = 6;
 
 /**
- * Which of some files is a script, and which a page, as all are that are neither scripts nor drawings; the rest isn't opened.
+ * Which of some files is a script, which a drawing, and which a page, as all are that are neither; the rest isn't opened.
  * @template {{ name: string }} F
  * @param {F[]} files
- * @returns {{ script: F | undefined, page: F | undefined, rest: F[] }}
+ * @returns {{ script: F | undefined, page: F | undefined, drawing: F | undefined, rest: F[] }}
  */
 export function sortedFiles(files) {
-  const script = files.find(({ name }) => IS_SCRIPT.test(name));
+  const [script, drawing] = [IS_SCRIPT, IS_DRAWING].map((kind) => files.find(({ name }) => kind.test(name)));
   const page = files.find(({ name }) => !IS_SCRIPT.test(name) && !IS_DRAWING.test(name));
-  return { script, page, rest: files.filter((file) => file !== script && file !== page) };
+  return { script, page, drawing, rest: files.filter((file) => ![script, page, drawing].includes(file)) };
 }
 
 /**
- * What is to be said of files by their names: of a page that isn't named as one, of drawings, and of what else isn't opened.
+ * What is to be said of files by their names: of a page that isn't named as one, and of what isn't opened.
  * @param {string | null} page
  * @param {string[]} rest
  */
 export function remarksOn(page, rest) {
-  const [drawings, others] = [true, false].map((isOne) => rest.filter((name) => IS_DRAWING.test(name) === isOne).join(", "));
-  return [
-    page && !IS_PAGE.test(page) ? word("takenAsPage", { name: page }) : "",
-    drawings ? word("drawingLeft", { names: drawings }) : "",
-    others ? word("leftOut", { names: others }) : "",
-  ].filter((said) => said).join(" ");
+  const taken = page && !IS_PAGE.test(page) ? word("takenAsPage", { name: page }) : "";
+  return [taken, rest.length ? word("leftOut", { names: rest.join(", ") }) : ""].filter((said) => said).join(" ");
 }
 
 /**
@@ -235,22 +231,24 @@ export class Keep {
   }
 
   /**
-   * Opens files: a page, a script for the page that is open, or both.
+   * Opens files: a page, a script for the page that is open, or both; and a drawing, which is drawn on it.
    * @param {Iterable<File>} list
    */
   async open(list) {
-    const { script, page, rest } = sortedFiles([...list]);
-    const named = page || script;
-    const remarks = remarksOn(page ? page.name : null, rest.map(({ name }) => name));
-    if (!named && remarks) this.say(remarks, true);
-    if (!named || !(await this.mayLeave())) return;
+    const { script, page, drawing, rest } = sortedFiles([...list]);
+    const [named, name] = [page || script, (page || script || drawing || { name: "" }).name];
+    const remarks = remarksOn(page ? page.name : null, rest.map((file) => file.name));
+    if (named && !(await this.mayLeave())) return;
+    /** @type {(file: File) => Promise<string>} */
+    const textIn = async (file) => (await file.text()).replace(/\r\n?/g, "\n");
     try {
       const bytes = page ? new Uint8Array(await page.arrayBuffer()) : this.needs.sheet.page;
-      const text = script ? (await script.text()).replace(/\r\n?/g, "\n") : "";
-      this.take(savedOf(page ? page.name : this.name || named.name, bytes, text));
+      const [text, figures] = [script ? await textIn(script) : "", drawing ? await textIn(drawing) : ""];
+      if (named) this.take(savedOf(page ? page.name : this.name || name, bytes, text));
+      if (figures) this.tell({ kind: "figures", text: figures });
       if (remarks) this.say(remarks);
     } catch (fault) {
-      this.say(this.endOf(fault, named.name), true);
+      this.say(this.endOf(fault, name), true);
     }
   }
 

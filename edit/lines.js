@@ -64,6 +64,30 @@ export const signsIn = (text) => text.match(/\P{M}\p{M}*|\p{M}+/gsu) || [];
  * @returns {Sign[]}
  */
 export const knownSigns = (text) => signsIn(text).flatMap((one) => signOf(one) || []);
+/**
+ * Signs as word processors put them, by what is written in their place where no set has them.
+ * @type {Record<string, string>}
+ */
+const PROCESSED = {
+  "-": "\u2010\u2011\u2012\u2013\u2014\u2212", "\"": "\u201e\u201f\u201c\u201d", "'": "\u201a\u201b\u2018\u2019", "...": "\u2026",
+};
+const PLAINER = new Map(Object.entries(PROCESSED).flatMap(([by, signs]) => [...signs].map((sign) => /** @type {const} */ ([sign, by]))));
+const [SPACES, LOW_QUOTES, QUOTES] = [/[\u00a0\u2007\u2009\u202f]/g, /[\u201a\u201e]/, /[\u2018\u2019\u201c\u201d]/];
+/**
+ * A line with plainer signs for those of word processors that no set has; beside a low quotation mark, which none has, for the others too.
+ * Notes what was replaced by what, but of spaces.
+ * @param {string} line
+ * @param {Map<string, string>} noted
+ * @returns {string}
+ */
+export function plainer(line, noted) {
+  const isQuoted = LOW_QUOTES.test(line);
+  return signsIn(line.replace(SPACES, " ")).map((sign) => {
+    const by = signOf(sign) && !(isQuoted && QUOTES.test(sign)) ? undefined : PLAINER.get(sign);
+    if (by) noted.set(sign, by);
+    return by || sign;
+  }).join("");
+}
 /** @param {Sign} sign */
 const isPlain = ({ set, code, accent }) => set === "P" && code < 0x7f && !accent;
 /** @param {Sign[]} signs */
@@ -113,6 +137,18 @@ export function linesOfSigns(signs) {
   return [...comment, raw(...locked, ...bytesOfSigns(signs))];
 }
 
+const FIGURES = /^# (?:(?:plot|unplot|line|box|wipe)(?: \d+)+(?:; |$))+$/;
+/**
+ * Whether a comment is what the editor itself put before a line: the letters that this writes, or the figures that it draws.
+ * @param {string} comment
+ * @param {string} line
+ */
+export function isNoteOn(comment, line) {
+  const signs = knownSigns(comment.slice(2));
+  const isOfLetters = signs.length > 0 && linesOfSigns(signs).join("\n") === `${comment}\n${line}`;
+  return isOfLetters || (FIGURES.test(comment) && line.startsWith("raw "));
+}
+
 /**
  * The line that writes a typed text: `raw` after the lock of G0 that `text` makes, where `text` can't say it.
  * @param {string} text
@@ -134,6 +170,15 @@ export function inGrammar(line) {
   const text = /^text[ \t](.+)$/s.exec(begun);
   if (text) return written(text[1]);
   return begun.startsWith("#") ? begun : begun.replace(/[ \t]+$/, "").replace(/[ \t]+/g, " ");
+}
+
+/**
+ * A sign as it is told: by its number where it can't be seen.
+ * @param {string} sign
+ */
+export function toldSign(sign) {
+  const isSeen = !/^[\p{C}\p{Z}]/u.test(sign);
+  return isSeen ? sign : `U+${(sign.codePointAt(0) || 0).toString(16).toUpperCase().padStart(4, "0")}`;
 }
 
 /**
@@ -182,6 +227,8 @@ export const PEN = {
   },
   switches: { lined: "c1 26", boxed: "c1 11", conceal: "c1 24", invert: "c1 29", transparent: "c1 30" },
 };
+// The lines under which signs are high.
+export const TALLER = ["c1 13", "c1 15"];
 /**
  * The markers of the serial set, beside the colours.
  * @type {Record<string, string>}

@@ -135,22 +135,32 @@ export class PatternEditor {
   }
 
   /**
-   * Takes a code: its pattern, where it has one.
+   * Takes a code: its pattern, where it has one. What was painted for the code before is defined then, which is said; where that can't be, the
+   * code stays.
    * @param {number} code
    */
   take(code) {
-    this.code = code;
-    const pattern = this.defined();
-    if (pattern) {
-      const { width, height, planes, words } = pattern;
-      this.planes = planes;
-      this.field = blankField();
-      this.setSize(`${width}x${height}`);
-      this.pixels = [...pixelsOf(width, height, planes, words)];
-      this.ink = Math.min(this.ink, COUNTS[planes] - 1);
-      this.settle();
+    const [before, pattern] = [this.code, this.patternOf(code)];
+    const isLost = pattern !== null && this.underWay() !== null;
+    if (isLost && !this.needs.ready()) {
+      this.show();
+      return;
     }
+    if (isLost) this.define();
+    this.code = code;
+    if (pattern) this.paintPattern(pattern);
     this.changed();
+    if (isLost) this.tell({ kind: "said", text: word("patternKept", { code: hexOf(before) }) });
+  }
+
+  /** @param {import("./types.js").Pattern} pattern */
+  paintPattern({ width, height, planes, words }) {
+    this.planes = planes;
+    this.field = blankField();
+    this.setSize(`${width}x${height}`);
+    this.pixels = [...pixelsOf(width, height, planes, words)];
+    this.ink = Math.min(this.ink, COUNTS[planes] - 1);
+    this.settle();
   }
 
   // Shows what was painted or taken, and tells that what is under way is another.
@@ -195,9 +205,12 @@ export class PatternEditor {
     return asker.lastLooks(sheet.edited(), [WIPED, ...lines]);
   }
 
-  // The pattern that the code has on the page as it would be kept, or null.
-  defined() {
-    const [, look] = this.ask([showLine(this.code)]);
+  /**
+   * The pattern that a code has on the page as it would be kept, or null.
+   * @param {number} code
+   */
+  patternOf(code) {
+    const [, look] = this.ask([showLine(code)]);
     return look && look.pattern;
   }
 
@@ -220,7 +233,7 @@ export class PatternEditor {
 
   // Writes the sign, which is defined before where it isn't yet.
   write() {
-    const isNew = !this.defined();
+    const isNew = !this.patternOf(this.code);
     if (isNew) this.define();
     this.tell({ kind: "write", signs: [{ set: "D", code: this.code, accent: 0 }] });
     if (isNew && !this.needs.sheet.fault) this.tell({ kind: "said", text: word("patternFirst", { code: hexOf(this.code) }) });

@@ -1,7 +1,7 @@
 // The script as text beside the screen: edited in place, with the line that is wrong, the one that is pointed at, and the one up to
 // which the screen is shown.
 import { word } from "./words.js";
-import { unknownIn } from "./lines.js";
+import { whyBad } from "./grammar.js";
 import { isEdit } from "./sheet.js";
 import { Steps, kindOf } from "./steps.js";
 import { part, say } from "./controls.js";
@@ -10,6 +10,8 @@ import { part, say } from "./controls.js";
 /** @typedef {import("./types.js").Tell} Tell */
 
 const PAUSE = 200;
+// The kind of the step of a script that was tidied.
+const TIDYING = "tidying";
 
 /**
  * The numbers of the lines, each with how many cells it changed.
@@ -22,20 +24,6 @@ export function gutterOf({ lines, good, making }) {
     return `${index + 1}${String(count || "").padStart(4)}`;
   });
   return rows.join("\n");
-}
-
-/**
- * Of a line with a sign that no set has that sign, by its number where it can't be seen, and its place.
- * @param {{ line: number, name: string }} fault
- * @param {string[]} lines
- * @returns {{ sign?: string, place?: number }}
- */
-export function unknownOf({ line, name }, lines) {
-  const found = name === "BadText" ? unknownIn(lines[line - 1]) : null;
-  if (!found) return {};
-  const { sign, place } = found;
-  const isSeen = !/^[\p{C}\p{Z}]/u.test(sign);
-  return { sign: isSeen ? sign : `U+${(sign.codePointAt(0) || 0).toString(16).toUpperCase().padStart(4, "0")}`, place };
 }
 
 /**
@@ -124,6 +112,20 @@ export class ScriptPane {
     return true;
   }
 
+  // Tidies the script, as a step that can be taken back. Answers whether the page is the same by it; else nothing is done.
+  tidy() {
+    this.follow();
+    const [before, done] = [this.sheet.script(), this.sheet.tidy()];
+    if (this.sheet.script() !== before) this.steps.note(this.sheet.script(), TIDYING);
+    return done;
+  }
+
+  // Takes the tidying back, where nothing was done since. Answers whether there was any.
+  undoTidying() {
+    this.follow();
+    return this.steps.kind() === TIDYING && this.undoRedo("undo");
+  }
+
   // The same without a pause, where it waits.
   settle() {
     if (this.waiting) this.told();
@@ -178,7 +180,7 @@ export class ScriptPane {
   // Tells the fault, the line that is pointed at, and up to where is shown.
   speak() {
     const { fault, making } = this.sheet;
-    say("script-fault", fault ? word("badLine", { ...fault, why: word(fault.name, unknownOf(fault, this.lines())) }) : "");
+    say("script-fault", fault ? word("badLine", { ...fault, why: this.why(fault) }) : "");
     this.field.setAttribute("aria-invalid", String(fault !== null));
     const shown = this.step === null ? this.good() : this.step;
     [part("step").max, part("step").value] = [this.good(), shown];
@@ -188,6 +190,15 @@ export class ScriptPane {
     const said = !line ? "" : word(count === 0 ? "lineNothing" : count === 1 ? "lineChangedOne" : "lineChanged", { line, cells: count });
     say("script-line", this.step === null ? said : `${word("shownTo", { line: this.step, lines: this.good() })} ${said}`);
     this.bands();
+  }
+
+  /**
+   * Why a line is wrong.
+   * @param {{ line: number, name: string }} fault
+   */
+  why(fault) {
+    const { asker, lines } = this.sheet;
+    return whyBad(fault, lines[fault.line - 1], "script", (page) => asker.check(page));
   }
 
   bands() {

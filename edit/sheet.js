@@ -4,7 +4,7 @@
 import { Looks } from "./shared.js";
 import { AskFault, BadLine } from "./faults.js";
 import { Making } from "./making.js";
-import { inGrammar, sameBytes } from "./lines.js";
+import { inGrammar, isNoteOn, sameBytes } from "./lines.js";
 import { STATUS } from "./statuses.js";
 
 /** @typedef {import("./ask.js").Asker} Asker */
@@ -20,6 +20,9 @@ const AT = /^at (\d+) (\d+)$/;
 const LONGEST = 2 ** 20;
 // Page and script of so many signs are made anew within the time of a frame.
 const SHORT = 20000;
+
+// So many edits can be undone, as docs/cept_tool.1 has it.
+export const KEPT = 64;
 
 /**
  * @param {string} line
@@ -216,11 +219,12 @@ export class Sheet {
   }
 
   /**
-   * Adds an action: its lines, after an empty one. Answers the number of lines before it.
+   * Adds an action: its lines, after an empty one, or lines with which the last action goes on. Answers the number of lines before them.
    * @param {string[]} lines
+   * @param {boolean} [goesOn]
    */
-  add(lines) {
-    const paragraph = this.lines.length && this.lines[this.lines.length - 1] !== "" ? [""] : [];
+  add(lines, goesOn = false) {
+    const paragraph = !goesOn && this.lines.length && this.lines[this.lines.length - 1] !== "" ? [""] : [];
     this.change(this.lines.length, [...paragraph, ...(this.needsStart() ? [START] : []), ...lines]);
     return this.lines.length - lines.length;
   }
@@ -258,21 +262,28 @@ export class Sheet {
   }
 
   /**
+   * How many edits the action has that would be undone next, or redone, and how many of them the program keeps.
+   * @param {"undo" | "redo"} word
+   */
+  reach(word) {
+    const count = this.lastOf(word).length;
+    if (count && (word === "undo" ? this.less && this.live.kept() < count : this.isAside)) this.makeAnew();
+    return { count, most: Math.min(count, word === "undo" ? this.live.kept() : this.live.undone()) };
+  }
+
+  /**
    * Takes the last action back, or makes the one that was undone last again: by a line for each of its edits. Answers whether there
    * was one that the program keeps.
    * @param {"undo" | "redo"} word
    */
   undoRedo(word) {
-    const count = this.lastOf(word).length;
-    if (!count) return false;
-    if (word === "undo" ? this.less && this.live.kept() < count : this.isAside) this.makeAnew();
-    const most = Math.min(count, word === "undo" ? this.live.kept() : this.live.undone());
+    const { most } = this.reach(word);
     const paragraph = this.lines[this.lines.length - 1] !== "" ? [""] : [];
     if (most) this.change(this.lines.length, [...paragraph, ...Array(most).fill(word)]);
     return most > 0;
   }
 
-  // The lines of kept edits, with the comments and the empty lines of their actions.
+  // The lines of kept edits, and all comments but what the editor itself put before the others.
   tidied() {
     const kept = new Set(this.kept());
     /** @type {string[]} */
@@ -280,9 +291,10 @@ export class Sheet {
     /** @type {{ line: string, index: number }[]} */
     let action = [];
     const close = () => {
-      const wasEdit = action.some(({ line }) => isEdit(line));
-      const stays = action.filter(({ line, index }) => !isEdit(line) || kept.has(index));
-      if (!wasEdit || stays.some(({ line }) => isEdit(line))) left.push(...stays.map(({ line }) => line));
+      /** @type {(index: number) => boolean} */
+      const goes = (index) => isEdit(this.lines[index] || "") && !kept.has(index);
+      const stays = action.filter(({ line, index }) => !goes(index) && !(goes(index + 1) && isNoteOn(line, this.lines[index + 1])));
+      left.push(...stays.map(({ line }) => line));
       action = [];
     };
     this.lines.forEach((line, index) => {

@@ -75,6 +75,12 @@ export class Steps {
     this.text = text;
   }
 
+  // The kind of the last step, or nothing.
+  kind() {
+    const last = this.done[this.done.length - 1];
+    return last ? last.kind : "";
+  }
+
   /**
    * Takes the last step back, or makes the one that was taken back last again. Answers the place behind what is another, or null where there
    * was none.

@@ -25,14 +25,15 @@
  */
 
 /**
- * What a part tells the editor, by its kind: an action to add (`act`); lines or signs that belong at the caret (`mark`, `write`); that the
- * script was changed at the caret (`changed`), by hand (`typed`), or is to be tidied (`tidy`); that the caret moved (`moved`), and that
- * where it is should be told (`arrived`); that another pen was chosen (`chosen`); that the screen shows something else (`seen`), or what it was after an
- * item (`stepped`), or other
- * cells are to be outlined (`pointed`); that what is drawn or painted is another (`drawn`); that the page is to be cut after some items (`cut`);
- * that a page was taken (`taken`), or its name or what is kept of it is another (`named`); and words to be shown (`said`).
- * @typedef {{ kind: "act" | "mark", lines: string[] } | { kind: "write", signs: Sign[] } | { kind: "typed", text: string }
- *   | { kind: "said", text: string, isFault?: boolean } | { kind: "taken", kept: import("./store.js").Kept }
+ * What a part tells the editor, by its kind: an action to add (`act`); lines or signs that belong at the caret (`mark`, `write`); that
+ * the script was changed at the caret (`changed`), by hand (`typed`), or is to be tidied (`tidy`); that lines of a drawing were opened
+ * (`figures`); that the caret moved (`moved`), and that where it is should be told (`arrived`); that another pen was chosen (`chosen`);
+ * that the screen shows something else (`seen`), or what it was after an item (`stepped`), or other cells are to be outlined
+ * (`pointed`); that what is drawn or painted is another (`drawn`); that the page is to be cut after some items (`cut`); that a page was
+ * taken (`taken`), or its name or what is kept of it is another (`named`); and words to be shown (`said`), of which a warning lasts for
+ * some keys.
+ * @typedef {{ kind: "act" | "mark", lines: string[] } | { kind: "write", signs: Sign[] } | { kind: "typed" | "figures", text: string }
+ *   | { kind: "said", text: string, isFault?: boolean, lasts?: boolean } | { kind: "taken", kept: import("./store.js").Kept }
  *   | { kind: "cut", items: import("./items.js").PageItems, count: number, makesLines: boolean }
  *   | { kind: "changed" | "tidy" | "moved" | "arrived" | "chosen" | "seen" | "stepped" | "pointed" | "drawn" | "named" }} Happening
  */

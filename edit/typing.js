@@ -1,7 +1,8 @@
 // Writing at the caret. The caret is the place of the next line `at`; after writing it is where the program says that it would go on.
 import { COLUMNS, ROWS } from "./shared.js";
 import { word } from "./words.js";
-import { knownSigns, linesOfSigns, signOf, signsIn } from "./lines.js";
+import { TALLER, knownSigns, linesOfSigns, plainer, signOf, signsIn, toldSign } from "./lines.js";
+import { KEPT, isEdit } from "./sheet.js";
 
 /** @typedef {import("./types.js").Look} Look */
 /** @typedef {import("./types.js").Sign} Sign */
@@ -22,6 +23,10 @@ import { knownSigns, linesOfSigns, signOf, signsIn } from "./lines.js";
  */
 
 const SPACE = "text  ";
+// Of signs that are left out so many are named.
+const MOST_NAMED = 40;
+// A tab leads to the next of the columns 1, 9, 17 and so on.
+const TAB = 8;
 const BLANK = { set: "P", code: 0x20, accent: 0 };
 /** @param {Sign} sign */
 const isLetter = ({ set }) => set === "P" || set === "S";
@@ -31,6 +36,32 @@ const isLetter = ({ set }) => set === "P" || set === "S";
  * @param {Sign} sign
  */
 const shows = (look, { set, code }) => (look.kind === "sign" ? look.code === code : look.kind === "pattern" ? set === "D" : code === BLANK.code);
+
+/**
+ * The signs of a line that begins in a column, with spaces in the place of a tab.
+ * @param {string} line
+ * @param {number} column
+ * @returns {string[]}
+ */
+export function spread(line, column) {
+  let at = column - 1;
+  return signsIn(line).flatMap((sign) => {
+    const signs = sign === "\t" ? new Array(TAB - (at % TAB)).fill(" ") : [sign];
+    at += signs.filter((one) => signOf(one)).length;
+    return signs;
+  });
+}
+
+/**
+ * What is said of signs that no set has: how many they are, and each once.
+ * @param {string[]} signs
+ */
+export function leftOut(signs) {
+  const names = [...new Set(signs.map(toldSign))];
+  const more = names.length > MOST_NAMED ? " …" : "";
+  return signs.length === 1 ? word("noSign", { sign: names[0] })
+    : word("noSigns", { count: signs.length, signs: names.slice(0, MOST_NAMED).join(" ") + more });
+}
 
 export class Typing {
   /**
@@ -48,6 +79,13 @@ export class Typing {
     this.stretch = null;
     /** @type {string | null} */
     this.said = null;
+    // How many lines the script had before a text that is being typed, all of which is one action; infinite while none is.
+    this.before = Infinity;
+    /**
+     * What is to be said of what is done, once it is done; null while nothing is.
+     * @type {Set<string> | null}
+     */
+    this.remarks = null;
   }
 
   reset() {
@@ -111,23 +149,70 @@ export class Typing {
   }
 
   /**
-   * Types a text, of which each further line begins a new row.
-   * @param {string} text
+   * Does something, and once it is done says what was remarked meanwhile, each remark once.
+   * @param {() => void} act
    */
-  type(text) {
-    text.split(/\r\n?|\n/).forEach((line, at) => {
-      if (at) this.newLine();
-      this.typeLine(line);
+  remarked(act) {
+    const [outer, remarks] = [this.remarks, this.remarks || new Set()];
+    this.remarks = remarks;
+    try {
+      act();
+    } finally {
+      this.remarks = outer;
+    }
+    if (!outer && remarks.size) this.tell({ kind: "said", text: [...remarks].join(" "), lasts: true });
+  }
+
+  /** @param {string} text */
+  remark(text) {
+    if (this.remarks) this.remarks.add(text);
+  }
+
+  /**
+   * Does something that goes on at the caret. Past the last row that is in one above, which is said.
+   * @param {() => void} act
+   */
+  onward(act) {
+    const { row } = this;
+    this.remarked(() => {
+      act();
+      if (this.row < row && !this.composing) this.remark(word("pastEnd", { row: this.row }));
     });
   }
 
-  /** @param {string} line */
+  /**
+   * Types a text, of which each further line begins a new row. All of it is one action, or goes on with the one under way.
+   * @param {string} text
+   */
+  type(text) {
+    if (!this.needs.ready()) return;
+    const { sheet } = this.needs;
+    /** @type {Map<string, string>} */
+    const replaced = new Map();
+    const [lines, before] = [text.split(/\r\n?|\n/).map((line) => plainer(line, replaced)), sheet.lines.length];
+    this.remarked(() => {
+      this.before = before;
+      const other = lines.flatMap((line, at) => {
+        if (at) this.newLine();
+        return this.typeLine(line);
+      });
+      this.before = Infinity;
+      const count = lines.length > 1 ? sheet.lines.slice(before).filter(isEdit).length : 0;
+      if (replaced.size) this.remark(word("replaced", { signs: [...replaced].map(([sign, by]) => `${sign} → ${by}`).join(", ") }));
+      if (other.length) this.remark(leftOut(other));
+      if (count > KEPT) this.remark(word("manyEdits", { count }));
+    });
+  }
+
+  /**
+   * Types a line. Answers its signs that no set has, which aren't written.
+   * @param {string} line
+   */
   typeLine(line) {
-    const signs = signsIn(line);
-    const known = knownSigns(line);
+    const signs = spread(line, this.column);
+    const known = signs.flatMap((sign) => signOf(sign) || []);
     if (known.length) this.write(known);
-    const other = signs.find((sign) => !signOf(sign));
-    if (other) this.tell({ kind: "said", text: word("noSign", { sign: other }) });
+    return signs.filter((sign) => !signOf(sign));
   }
 
   /**
@@ -136,16 +221,17 @@ export class Typing {
    */
   write(signs) {
     if (!this.needs.ready()) return;
-    this.watched(signs[0], () => {
+    this.onward(() => this.watched(signs[0], () => {
       if (!this.stretch || this.stretch.signs.some((sign) => isLetter(sign) !== isLetter(signs[0]))) return this.begin(signs);
       this.stretch.signs.push(...signs);
       return this.restate();
-    });
+    }));
   }
 
   /**
    * Writes signs, of which the first belongs at the caret. Says so where no cell changes and this one shows another: it is protected, or a
-   * larger sign covers it. What is being composed stands before the caret already.
+   * larger sign covers it; and where it is the last row, in which nothing is high, under a size that is. What is being composed stands
+   * before the caret already.
    * @param {Sign} sign
    * @param {() => void} write
    */
@@ -155,7 +241,26 @@ export class Typing {
     write();
     const after = making.end();
     const isSame = !this.composing && before.every((number, at) => number === after[at]);
-    if (isSame && !shows(known.list[after[cell]], sign)) this.tell({ kind: "said", text: word("stays") });
+    if (isSame && !shows(known.list[after[cell]], sign)) this.remark(word("stays"));
+    else if (known.list[after[cell]].high === 1) this.flatIn(cell, this.needs.pen.lines().lines);
+  }
+
+  /**
+   * Says so where lines make signs high in the last row of the format.
+   * @param {number} cell
+   * @param {string[]} lines
+   */
+  flatIn(cell, lines) {
+    if (cell >= (this.needs.sheet.rows - 1) * COLUMNS && lines.some((line) => TALLER.includes(line))) this.remark(word("flat"));
+  }
+
+  /**
+   * Adds lines: behind the first ones of a text they go on with its action.
+   * @param {string[]} lines
+   */
+  add(lines) {
+    const { sheet } = this.needs;
+    return sheet.add(lines, sheet.lines.length > this.before);
   }
 
   /**
@@ -167,7 +272,7 @@ export class Typing {
     const [lead, before] = [this.lead(), sheet.lines.length];
     /** @type {Stretch["begun"]} */
     const begun = [this.row, this.column, this.said];
-    const from = sheet.add([...lead, ...linesOfSigns(signs)]);
+    const from = this.add([...lead, ...linesOfSigns(signs)]);
     this.stretch = { signs: [...signs], lead, begun, before, from };
     this.arrive(this.needs.pen.key());
     this.tell({ kind: "changed" });
@@ -222,10 +327,10 @@ export class Typing {
   wipe(row, column) {
     if (!this.needs.ready()) return;
     this.place(row, column);
-    this.watched(BLANK, () => {
+    this.remarked(() => this.watched(BLANK, () => {
       this.needs.sheet.add([this.at(), SPACE]);
       this.tell({ kind: "changed" });
-    });
+    }));
   }
 
   // To the first column of the next row in which no sign from above reaches.
@@ -234,13 +339,15 @@ export class Typing {
     const { said, needs: { sheet } } = this;
     const lines = [...(said === null ? [this.at()] : []), "return", "down"];
     this.stretch = null;
-    const from = sheet.add(lines);
-    this.arrive(said);
-    if (this.isCovered()) {
-      sheet.change(from, [...lines, "down"]);
+    this.onward(() => {
+      const from = this.add(lines);
       this.arrive(said);
-    }
-    this.tell({ kind: "changed" });
+      if (this.isCovered()) {
+        sheet.change(from, [...lines, "down"]);
+        this.arrive(said);
+      }
+      this.tell({ kind: "changed" });
+    });
   }
 
   isCovered() {
@@ -255,11 +362,14 @@ export class Typing {
    */
   act(lines) {
     if (!this.needs.ready()) return;
-    const lead = this.lead();
+    const [lead, cell] = [this.lead(), this.cell()];
     this.stretch = null;
-    this.needs.sheet.add([...lead, ...lines]);
-    this.arrive(this.needs.pen.key());
-    this.tell({ kind: "changed" });
+    this.onward(() => {
+      this.needs.sheet.add([...lead, ...lines]);
+      this.flatIn(cell, lines);
+      this.arrive(this.needs.pen.key());
+      this.tell({ kind: "changed" });
+    });
   }
 
   /**

@@ -1,8 +1,9 @@
 // The panels of rows, screen, area and format, and of colour entries.
 import { ROWS } from "./shared.js";
 import { speak, word } from "./words.js";
+import { wrongIn } from "./grammar.js";
 import { BACK, FORE, ROW_ALONE, WHOLE, colourLines, coloursLine, dclutLine, formatLine } from "./lines.js";
-import { button, choice, group, inLine, make, numberIn, numbers, part, rove, styleOf, swatch } from "./controls.js";
+import { button, choice, group, inLine, make, numbers, part, rove, styleOf, swatch } from "./controls.js";
 
 /** @typedef {import("./types.js").Tell} Tell */
 
@@ -73,18 +74,26 @@ export class Whole {
     this.tell({ kind: "act", lines: [...(kind === "row" ? [this.needs.at()] : []), ...lines] });
   }
 
+  /**
+   * Tells a line with numbers of fields as what its kind says; one that the script wouldn't take is refused, and it is said why.
+   * @param {"act" | "mark"} kind
+   * @param {string} text
+   */
+  asks(kind, text) {
+    const why = wrongIn(text, "script");
+    if (why) this.tell({ kind: "said", text: word("notTaken", { line: text.trim(), why }), isFault: true });
+    else this.tell({ kind, lines: [text] });
+  }
+
   area() {
     const [from, to] = [numbers("areaFrom", 1, ROWS, 5), numbers("areaTo", 1, ROWS, 20)];
     this.ends = [from, to];
-    const rows = () => {
-      const ends = [numberIn(from), numberIn(to)];
-      return `${Math.min(...ends)} ${Math.max(...ends)}`;
-    };
-    /** @type {(key: string, text: () => string) => HTMLElement} */
-    const says = (key, text) => button(key, () => this.act([text()]));
-    return group("areaPart", from, to, says("areaMake", () => `area ${rows()}`), says("areaDrop", () => `noarea ${rows()}`),
-      says("scrollUp", () => "scrollup"), says("scrollDown", () => "scrolldown"),
-      says("implicit", () => "implicit"), says("explicit", () => "explicit"));
+    /** @type {(key: string, name: string) => HTMLElement} */
+    const ofRows = (key, name) => button(key, () => this.asks("act", `${name} ${from.value} ${to.value}`));
+    /** @type {(key: string, text: string) => HTMLElement} */
+    const says = (key, text) => button(key, () => this.act([text]));
+    return group("areaPart", from, to, ofRows("areaMake", "area"), ofRows("areaDrop", "noarea"), says("scrollUp", "scrollup"),
+      says("scrollDown", "scrolldown"), says("implicit", "implicit"), says("explicit", "explicit"));
   }
 
   format() {
@@ -101,11 +110,11 @@ export class Whole {
   }
 
   writing() {
-    const times = numbers("repeatCount", 1, 63, 10);
+    const times = numbers("repeatCount", 0, 63, 10);
     /** @type {(key: string, text: () => string) => HTMLElement} */
-    const marks = (key, text) => button(key, () => this.tell({ kind: "mark", lines: [text()] }));
+    const marks = (key, text) => button(key, () => this.asks("mark", text()));
     return group("writePart", button("clear", () => this.act(["clear"])), button("erase", () => this.act([this.needs.at(), "erase"])),
-      marks("repeat", () => `repeat ${numberIn(times)}`), times, marks("protect", () => "protect"), marks("unprotect", () => "unprotect"));
+      marks("repeat", () => `repeat ${times.value}`), times, marks("protect", () => "protect"), marks("unprotect", () => "unprotect"));
   }
 
   // Shows the area that is there, once it is another, and which of the modes are in force.

@@ -7,6 +7,7 @@ import subprocess
 import unicodedata
 
 import access
+from btx import grammar
 from hands import BLANK, CONTROL, ROOT, SHIFT
 
 PAGES = os.path.join(ROOT, "pages")
@@ -191,6 +192,51 @@ def signs_of_all_sets_are_typed(hand):
     hand.type("中")
     assert "中" in hand.text("note"), hand.text("note")
     hand.is_true()
+    # Of what is pasted all is told that is left out, each once; a tab is spaces.
+    hand.cell(6, 1)
+    hand.tab.call("Input.insertText", text="a€\tb中\n€c")
+    assert hand.text("note").startswith("3 Zeichen sind ausgelassen") and hand.text("note").endswith(": € 中"), hand.text("note")
+    assert [hand.looks()[cell][:3] for cell in (200, 208, 240)] == ["P61", "P62", "P63"], hand.script()
+    hand.is_true()
+
+
+def past_the_last_row_it_goes_on_in_the_first(hand):
+    """Which is said, by letters and by Return."""
+    hand.fresh()
+    hand.cell(24, 40)
+    hand.type("x")
+    assert hand.caret() == (1, 1) and hand.text("note").endswith("in Zeile 1."), hand.text("note")
+    hand.type("yz")
+    assert hand.text("note").endswith("in Zeile 1."), "the warning is gone with the next key"
+    hand.cell(24, 3)
+    hand.key("Enter")
+    assert hand.caret() == (1, 1) and hand.text("note").endswith("in Zeile 1."), hand.text("note")
+    hand.cell(3, 3)
+    hand.key("Enter")
+    assert hand.text("note") == "", hand.text("note")
+
+
+def an_undo_that_reaches_no_further_says_why(hand):
+    """Where the program keeps fewer edits than an action has, and where there is nothing."""
+    hand.fresh()
+    hand.key("z", held=CONTROL)
+    assert hand.text("note") == "Nichts mehr rückgängig zu machen.", hand.text("note")
+    hand.write_script("".join(f"text {at % 10}\n" for at in range(70)))
+    hand.cell(9, 9)
+    hand.key("z", held=CONTROL)
+    assert "letzten 64 der 70" in hand.text("note") and hand.lines()[70:] == ["undo"] * 64, hand.text("note")
+    hand.key("z", held=CONTROL)
+    assert hand.text("note").startswith("Weiter zurück") and len(hand.lines()) == 134, hand.text("note")
+    hand.is_true()
+    # What is pasted is one action.
+    hand.fresh()
+    hand.tab.call("Input.insertText", text="\n".join(["Zeile"] * 23))
+    assert hand.text("note").startswith("Das sind 68 Änderungen"), hand.text("note")
+    hand.fresh()
+    hand.cell(3, 3)
+    hand.tab.call("Input.insertText", text="eins\nzwei\ndrei")
+    hand.key("z", held=CONTROL)
+    assert hand.lines()[7:] == ["text drei"] + ["undo"] * 8 and hand.caret() == (3, 3), hand.script()
 
 
 def scripts_are_typed(hand):
@@ -270,6 +316,12 @@ def what_was_written_in_the_script_is_undone_there(hand):
         assert hand.tab.value(WRITTEN) == [text, len(text)], hand.tab.value(WRITTEN)
     hand.key("z", 3, held=CONTROL)
     assert hand.tab.value(WRITTEN)[0] == made, hand.tab.value(WRITTEN)
+    # The buttons do the same, and the focus stays.
+    hand.key("y", 2, held=CONTROL)
+    for button, text in (("#undo", texts[2]), ("#undo", made), ("#redo", texts[2]), ("#undo", made)):
+        hand.click(button)
+        assert hand.tab.value(WRITTEN) == [text, len(text)], hand.tab.value(WRITTEN)
+        assert hand.tab.value("document.activeElement.id") == "script"
     # Then what was done on the screen, by lines as there.
     hand.key("z", held=CONTROL)
     assert hand.shown_script() == f"{made}\nundo\nundo\n" and hand.looks() == [BLANK] * 960, hand.shown_script()
@@ -421,6 +473,21 @@ def rows_screen_area_format_and_colours_are_lines(hand):
     hand.click('#sheet [data-word="repeat"]')
     assert hand.lines()[-1] == "repeat 10", hand.lines()
     hand.is_true()
+    # Numbers that a script wouldn't take are refused, and it is said why.
+    lines = hand.lines()
+    hand.fill('#sheet input[data-name="repeatCount"]', "64")
+    hand.click('#sheet [data-word="repeat"]')
+    assert hand.text("fault") == "„repeat 64“ geht nicht: N ist 64, erlaubt ist 0 bis 63.", hand.text("fault")
+    refused = ("0", "25", "A ist 0, erlaubt ist 1 bis 24; B ist 25"), ("9", "3", "A ist 9 und B 3"), ("", "3", "stehen 2 Angaben")
+    for first, last, why in refused:
+        hand.fill('#sheet input[data-name="areaFrom"]', first)
+        hand.fill('#sheet input[data-name="areaTo"]', last)
+        hand.click('#sheet [data-word="areaMake"]')
+        assert why in hand.text("fault") and hand.lines() == lines, hand.text("fault")
+    hand.fill('#sheet input[data-name="areaFrom"]', "2")
+    hand.click('#sheet [data-word="areaMake"]')
+    assert hand.lines()[-1] == "area 2 3" and hand.text("fault") == "", hand.lines()
+    hand.click('#sheet [data-word="areaDrop"]')
     hand.tab_of("colours")
     hand.click("#entries .swatch", 4)
     for number, level in enumerate(("15", "8", "1")):
@@ -459,8 +526,8 @@ def the_format_bounds_caret_and_drawing(hand):
     hand.choose('#sheet select[data-name="formatPart"]', "20", 0)
     hand.click('[data-apply="format"]')
     assert hand.caret()[0] <= 20 and abs(hand.tab.value(SHADED) - 20 / 24) < 0.01, (hand.caret(), hand.tab.value(SHADED))
-    hand.cell(22, 5)
-    assert hand.caret() == (20, 5), hand.caret()
+    hand.cell(22, 9)
+    assert hand.caret() == (20, 5) and hand.text("note") == "Unter dem Format von 20 Zeilen wird nicht geschrieben.", hand.text("note")
     hand.hover(*hand.place(4, 21, 40, 24))
     assert hand.text("where") == "Zeile 22, Spalte 5: unter dem Format von 20 Zeilen", hand.text("where")
     hand.hover(5, 5)
@@ -472,6 +539,10 @@ def the_format_bounds_caret_and_drawing(hand):
     hand.is_true()
     hand.tab_of("draw")
     hand.click('[data-tool="box"]')
+    hand.fill("#drawing", "plot 3 3\nplot 4 60\nbox 4 50 40 71\n")
+    assert "Format von 20 Zeilen" in hand.text("draw-fault") and hand.text("draw-fault").endswith(": 2, 3."), hand.text("draw-fault")
+    hand.click('#draw [data-word="drawDrop"]')
+    assert hand.text("draw-fault") == "", hand.text("draw-fault")
     hand.drag((4, 50), (40, 71))
     assert hand.tab.value("Tamligub.part('drawing').value") == "box 4 50 40 59"
     hand.key("ArrowDown", 3)
@@ -535,6 +606,32 @@ def a_sign_that_is_written_is_defined_before(hand):
     hand.click('#pattern [data-word="patternWrite"]')
     assert len(hand.lines()) == 3 and hand.text("note") == "", (hand.lines(), hand.text("note"))
     assert hand.looks()[3 * 40 + 4].startswith("%12x10x1/"), hand.looks()[3 * 40 + 4]
+    hand.is_true()
+
+
+def a_painted_sign_is_kept_where_another_is_taken(hand):
+    """One that wasn't defined yet is defined before, which is said; while a line of the script is wrong it stays."""
+    hand.fresh()
+    hand.tab_of("pattern")
+    hand.drag((0, 0), (11, 9), 12, 10, "pixels", 12)
+    hand.click("#pattern button.main")
+    one = hand.tab.value(PIXELS)
+    # A code without a pattern takes what is painted.
+    hand.choose("#pattern-code", "48")
+    assert hand.tab.value(PIXELS) == one and len(hand.lines()) == 1, hand.script()
+    hand.press(*hand.place(3, 7, 12, 10, "pixels"))
+    other = hand.tab.value(PIXELS)
+    script = hand.script()
+    hand.write_script(script + "frob\n")
+    hand.choose("#pattern-code", "33")
+    assert hand.tab.value(PIXELS) == other and hand.tab.value("Tamligub.part('pattern-code').value") == "48", hand.tab.value(PIXELS)
+    assert "berichtigen" in hand.text("fault"), hand.text("fault")
+    hand.write_script(script)
+    hand.choose("#pattern-code", "33")
+    assert hand.tab.value(PIXELS) == one and hand.text("note") == "Zeichen 3/0 ist nun so belegt, wie es gemalt war.", hand.text("note")
+    assert len(hand.lines()) == 2 and other != one, hand.script()
+    hand.choose("#pattern-code", "48")
+    assert hand.tab.value(PIXELS) == other and len(hand.lines()) == 2, hand.script()
     hand.is_true()
 
 
@@ -698,7 +795,7 @@ def without_plot_only_drawing_is_absent(hand):
 def a_bad_line_is_told(hand):
     hand.fresh()
     hand.write_script("at 1 1\ntext A\n\nat 25 1\ntext B\n")
-    assert hand.text("script-fault").startswith("Zeile 4: 3 BadNumber"), hand.text("script-fault")
+    assert hand.text("script-fault") == "Zeile 4: 3 BadNumber – ROW ist 25, erlaubt ist 1 bis 24", hand.text("script-fault")
     assert hand.looks()[0].startswith("P41") and hand.looks()[1] == BLANK
     assert not hand.tab.value("document.getElementById('band-fault').hidden")
     reasons = (("frob", "1 UnknownWord"), ("at 1", "2 WrongCount"), ("text ö„", "4 BadText"), ("raw 1", "5 BadHex"), ("raw 1C", "6 BadBytes"))
@@ -717,6 +814,20 @@ def a_bad_line_is_told(hand):
     hand.write_script("at 2 2\ntext gut\n")
     assert hand.text("script-fault") == "" and hand.text("fault") == ""
     hand.is_true()
+
+
+def as_lists(words):
+    """What each word takes, as the editor has it."""
+    return {
+        name: wanted if isinstance(wanted, str) else [{**number._asdict(), "without": list(number.without)} for number in wanted]
+        for name, wanted in words.items()
+    }
+
+
+def the_grammar_is_that_of_btx(hand):
+    hand.fresh()
+    for kind, words in grammar.WORDS.items():
+        assert hand.tab.value(f"Object.fromEntries(Tamligub.GRAMMAR.{kind})") == as_lists(words), kind
 
 
 def lines_are_stepped_and_pointed_at(hand):
@@ -1048,13 +1159,32 @@ def the_picture_reveals_what_is_revealed(hand):
 
 
 def what_is_not_opened_is_told(hand):
-    """One of two pages, and what is no page by its name, or a drawing."""
+    """One of two pages, and what is no page by its name."""
     hand.fresh(page("title"), page("boat"))
     assert hand.text("name") == "title.btx" and "Nicht geöffnet: boat.btx;" in hand.text("note"), hand.text("note")
     hand.open(hand.written("README.md", b"# A"))
     assert hand.text("name") == "README.md" and hand.text("note").startswith("README.md ist als Seite geöffnet"), hand.text("note")
-    hand.open(os.path.join(PAGES, "weather.drawing"))
-    assert hand.text("name") == "README.md" and "weather.drawing: Zeilen einer Zeichnung" in hand.text("fault"), hand.text("fault")
+
+
+def a_drawing_is_opened(hand):
+    """It goes into the field of the tab Draw, behind what is drawn there; kept, the page shows what `plot` makes of it."""
+    drawing = os.path.join(PAGES, "weather.drawing")
+    lines = [line for line in read(drawing).decode().split("\n") if line]
+    hand.fresh(page("weather"))
+    hand.tab_of("draw")
+    hand.fill("#drawing", "plot 79 71")
+    hand.tab_of("pen")
+    root = hand.tab.call("DOM.getDocument")["root"]["nodeId"]
+    node = hand.tab.call("DOM.querySelector", nodeId=root, selector="#file")["nodeId"]
+    hand.tab.call("DOM.setFileInputFiles", nodeId=node, files=[drawing])
+    hand.tab.until(f"Tamligub.part('drawing').value.split('\\n').length > {len(lines)}")
+    assert hand.tab.value("Tamligub.part('drawing').value").split("\n") == ["plot 79 71", *lines]
+    assert hand.text("name") == "weather.btx ●" and hand.tab.value("Tamligub.part('draw').hidden") is False, hand.text("name")
+    hand.click("#draw button.main")
+    hand.is_true(read(page("weather")))
+    drawn = hand.put("plot", page("weather"), hand.written("all.drawing", b"plot 79 71\n" + read(drawing)))
+    shapes = [[look.split(" ")[0] for look in looks] for looks in (hand.looks(), hand.looks_of(hand.written("drawn.btx", drawn)))]
+    assert shapes[0] == shapes[1], "the drawing shows something else"
 
 
 # What is seen after each of two rounds of turns.
@@ -1147,11 +1277,28 @@ def tidying_takes_undone_lines_out(hand):
     hand.key("z", held=CONTROL)
     hand.cell(4, 4)
     hand.type("bleibt auch")
-    before = hand.is_true()
+    before, script = hand.is_true(), hand.script()
     hand.click("#tidy")
     assert hand.script() == "at 2 2\ntext bleibt\n\nat 4 4\ntext bleibt auch\n", hand.script()
+    assert hand.text("note") == "Das Skript ist aufgeräumt.", hand.text("note")
+    hand.click("#tidy")
+    assert hand.text("note") == "Im Skript ist nichts aufzuräumen.", hand.text("note")
     assert hand.is_true() == before
+    # What was taken out comes back, by a key or the button, on the screen and in the script.
+    tidy = hand.script()
     hand.key("z", held=CONTROL)
+    assert hand.script() == script and hand.shown_script() == script, hand.script()
+    hand.click("#tidy")
+    hand.click("#undo")
+    assert hand.script() == script and hand.is_true() == before, hand.script()
+    hand.click("#tidy")
+    hand.tab.value("Tamligub.part('script').focus()")
+    for key, text in (("z", script), ("y", tidy), ("z", script), ("y", tidy)):
+        hand.key(key, held=CONTROL)
+        assert hand.script() == text, hand.script()
+    hand.key("Escape")
+    hand.key("z", held=CONTROL)
+    assert hand.lines()[-2:] == ["undo"] * 2, hand.script()
     hand.key("y", held=CONTROL)
     assert hand.is_true() == before
 
@@ -1228,6 +1375,35 @@ def every_control_has_a_name_in_both_languages(hand):
     other = sum(one != two for one, two in zip(seen["de"], seen["en"]))
     assert other > 80, f"only {other} names differ between the languages"
     access.all_is_named(hand.tab, 25)
+
+
+# Where the tools and the screen are.
+PLACES = """["tools", "screen"].map((id) => {
+  const box = Tamligub.part(id).getBoundingClientRect();
+  return [box.left, box.top, box.height];
+})"""
+
+
+def nothing_moves_under_the_pointer(hand):
+    """Neither where a cell is told nor by a note: both have room of their own, and a place is told whole in the title."""
+    for language in ("de", "en"):
+        for size in ((1024, 700), (1280, 900), (1366, 768), (1440, 900)):
+            hand.fresh(size=size, language=language)
+            hand.hover(5, 5)
+            hand.tab.value("Tamligub.editor.tell(''), 0")
+            before = hand.tab.value(PLACES)
+            hand.cell(24, 40)
+            hand.type("xy")
+            assert hand.text("note"), "nothing is told"
+            hand.hover(*hand.place(39, 23, 40, 24))
+            assert "78" in hand.text("where") and hand.tab.value("Tamligub.part('where').title") == hand.text("where"), hand.text("where")
+            assert hand.tab.value(PLACES) == before, f"{language}, {size}: {before} has become {hand.tab.value(PLACES)}"
+            hand.write_script("no such line\n")
+            hand.cell(3, 3)
+            hand.type("x")
+            assert hand.text("fault"), "no fault is told"
+            assert hand.tab.value(PLACES) == before, f"{language}, {size}: {before} has become {hand.tab.value(PLACES)}"
+            assert hand.caret() == (3, 3), hand.caret()
 
 
 def it_fits_small_screens(hand):
@@ -1342,19 +1518,21 @@ def no_other_script_runs(hand):
 
 CASES = (
     a_page_is_drawn_undone_made_again_and_kept, typing_is_lines, a_page_keeps_what_is_not_touched, signs_of_all_sets_are_typed,
+    past_the_last_row_it_goes_on_in_the_first, an_undo_that_reaches_no_further_says_why,
     scripts_are_typed, signs_are_composed, what_is_protected_stays_and_that_is_told,
     each_attribute_is_a_line, serial_attributes_are_markers,
     rows_screen_area_format_and_colours_are_lines, the_format_bounds_caret_and_drawing,
-    patterns_have_inks, a_sign_that_is_written_is_defined_before,
-    drawings_are_seen_before_they_are_kept, without_plot_only_drawing_is_absent, a_bad_line_is_told,
+    patterns_have_inks, a_sign_that_is_written_is_defined_before, a_painted_sign_is_kept_where_another_is_taken,
+    drawings_are_seen_before_they_are_kept, without_plot_only_drawing_is_absent, a_bad_line_is_told, the_grammar_is_that_of_btx,
     a_drawing_is_asked_about_and_outlasts_a_crash, a_painted_sign_is_asked_about_and_outlasts_a_crash,
     a_script_is_typed_key_by_key, what_was_written_in_the_script_is_undone_there, an_undo_leads_to_where_the_action_began,
     a_drawing_is_undone_figure_by_figure, while_drawing_nothing_is_written, another_page_has_no_drawing, a_message_ends_with_its_page,
     lines_are_stepped_and_pointed_at, the_items_of_a_page_are_stepped_and_marked, a_page_is_cut_and_made_lines,
     a_crash_loses_nothing, an_unsaved_page_is_asked_about, refused_items_are_told, what_is_kept,
-    the_picture_reveals_what_is_revealed, what_is_not_opened_is_told,
+    the_picture_reveals_what_is_revealed, what_is_not_opened_is_told, a_drawing_is_opened,
     what_flashes_is_that_of_flash, letters_of_the_browsers_font_take_the_place_of_dots, tidying_takes_undone_lines_out,
-    the_keyboard_alone_does_all, every_control_has_a_name_in_both_languages, it_fits_small_screens, a_finger_places_the_caret,
+    the_keyboard_alone_does_all, every_control_has_a_name_in_both_languages, nothing_moves_under_the_pointer, it_fits_small_screens,
+    a_finger_places_the_caret,
     each_panel_serves_a_person_without_a_mouse, with_less_motion_nothing_moves,
     random_actions_show_what_the_program_says, lines_end_a_break_of_the_page, no_other_script_runs,
 )

@@ -7,6 +7,7 @@ import "./test_store.js";
 import "./test_ask.js";
 import "./test_sheet.js";
 import "./test_items.js";
+import "./test_grammar.js";
 import "./test_steps.js";
 import "./test_typing.js";
 import "./test_facts.js";

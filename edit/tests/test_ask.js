@@ -4,7 +4,7 @@ import { test } from "node:test";
 import "./scripts.js";
 import { Asker, bytesOf, textOf } from "../ask.js";
 import { AskFault, BadLine } from "../faults.js";
-import { figureOf, lineOf } from "../drawing.js";
+import { figureOf, lineOf, linesBelow } from "../drawing.js";
 import * as shared from "../shared.js";
 
 const { CELLS } = shared;
@@ -72,4 +72,9 @@ test("mosaics of a drawing are one line: a place and the pen where they don't fo
   assert.strictEqual(lineOf(mosaics, [0x81], true), `raw ${begun}${first}${second}9B3260`);
   assert.strictEqual(lineOf([], [0x81], true), null);
   assert.strictEqual(lineOf([{ cell: CELLS - 1, code: 0x21 }], [], false), `raw ${begun}1F58680E210F`);
+});
+
+test("lines of a drawing that have a point below the format are told by their numbers", () => {
+  const lines = ["plot 70 59", "plot 0 60", "# 1 99", "box 1 71 2 3", "line 61 2 79 60", "wipe 70 0 71 59"];
+  assert.deepStrictEqual([linesBelow(lines, 60), linesBelow(lines, 72)], [[2, 4, 5], []]);
 });

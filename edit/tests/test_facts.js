@@ -6,6 +6,7 @@ import { asked, sheetOf } from "./program.js";
 import { POINTS_TALL, POINTS_WIDE } from "../drawing.js";
 import { REASONS } from "../live.js";
 import { MARKERS, PEN, WHOLE, bytesOfLine } from "../lines.js";
+import { KEPT } from "../sheet.js";
 import { STATUS } from "../statuses.js";
 import { TABLES } from "../words.js";
 
@@ -44,6 +45,11 @@ test("the longest page and the longest script are told as they are", () => {
   for (const [language, table] of Object.entries(TABLES)) {
     for (const most of [2 ** 24, 2 ** 20]) assert.ok(table.ended7.includes(most.toLocaleString(language)), `${language}: ${table.ended7}`);
   }
+});
+
+test("how many edits can be undone is told as it is", () => {
+  assert.ok(MANUAL.includes(`the last ${KEPT} can be undone`));
+  for (const table of Object.values(TABLES)) for (const key of ["undoEnds", "manyEdits"]) assert.ok(table[key].includes(String(KEPT)), table[key]);
 });
 
 test("the points of a drawing are two by three in a cell", () => {

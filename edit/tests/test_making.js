@@ -3,7 +3,7 @@ import assert from "node:assert";
 import { test } from "node:test";
 import "./scripts.js";
 import { Making } from "../making.js";
-import { gutterOf, stepFrom, unknownOf } from "../script.js";
+import { gutterOf, stepFrom } from "../script.js";
 import { CELLS } from "../shared.js";
 
 const [A, B, C, D] = [65, 66, 67, 68];
@@ -69,11 +69,4 @@ test("a step passes comments and empty lines", () => {
   const good = ["# note", "", "at 1 1", "text A", "", "at 2 1"];
   assert.deepStrictEqual([0, 3, 4, 5, 6].map((from) => stepFrom(from, 1, good)), [3, 4, 6, 6, 7]);
   assert.deepStrictEqual([6, 4, 3].map((from) => stepFrom(from, -1, good)), [4, 3, 0]);
-});
-
-test("of a sign that no set has is told which and where, and by its number where it can't be seen", () => {
-  const lines = ["at 1 1", "text a€", "text \u200bx"];
-  assert.deepStrictEqual(unknownOf({ line: 2, name: "BadText" }, lines), { sign: "€", place: 7 });
-  assert.deepStrictEqual(unknownOf({ line: 3, name: "BadText" }, lines), { sign: "U+200B", place: 6 });
-  assert.deepStrictEqual(unknownOf({ line: 2, name: "BadNumber" }, lines), {});
 });

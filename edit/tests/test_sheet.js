@@ -2,6 +2,7 @@
 import assert from "node:assert";
 import { asked, asker, bytes, rowOf, sheetOf } from "./program.js";
 import { lastGrid, readTrace } from "../shared.js";
+import { KEPT } from "../sheet.js";
 
 const PAGE = bytes(0x1f, 0x45, 0x41, ...Array.from("Seite", (sign) => sign.charCodeAt(0)));
 const START = "raw 1F2F44";
@@ -73,15 +74,17 @@ asked("after another action nothing is redone", () => {
   assert.strictEqual(sheet.making.count, before, "a line is made");
 });
 
-asked("tidying leaves out what was undone, with its notes, and the page stays", () => {
+asked("tidying leaves out what was undone, with what the editor noted on it; a maker's comments and the page stay", () => {
   const sheet = sheetOf();
   sheet.add(["# kept", "at 1 1", "text A"]);
-  sheet.add(["# undone", "at 2 1", "text B"]);
+  sheet.add(["# of a maker", "at 2 1", "# fü", "raw 0F66194875"]);
+  sheet.undoRedo("undo");
+  sheet.add(["# line 0 0 3 3; plot 5 5", "raw 1F2F44"]);
   sheet.undoRedo("undo");
   sheet.add(["at 3 1", "text C"]);
   const page = sheet.edited();
   assert.ok(sheet.tidy());
-  assert.strictEqual(sheet.script(), "# kept\nat 1 1\ntext A\n\nat 3 1\ntext C\n");
+  assert.strictEqual(sheet.script(), "# kept\nat 1 1\ntext A\n\n# of a maker\n\nat 3 1\ntext C\n");
   assert.deepStrictEqual(sheet.edited(), page);
 });
 
@@ -124,10 +127,34 @@ asked("undo goes as far as the program keeps edits, and lines of a long script s
   let count = 0;
   while (sheet.undoRedo("undo")) count++;
   assert.deepStrictEqual([count, sheet.kept().length, rowOf(sheet, 8)], [32, 16, "Zeile 7"]);
+  assert.deepStrictEqual(sheet.reach("undo"), { count: 2, most: 0 });
   isTrue(sheet);
   for (; count > 0; count--) assert.ok(sheet.undoRedo("redo"));
   assert.strictEqual(sheet.undoRedo("redo"), false);
   assert.deepStrictEqual([sheet.kept().length, rowOf(sheet, 16)], [80, "Zeile 39"]);
+  isTrue(sheet);
+});
+
+asked("of an action with more edits than the program keeps the last ones are undone", () => {
+  const sheet = sheetOf();
+  assert.deepStrictEqual([sheet.reach("undo"), sheet.reach("redo")], [{ count: 0, most: 0 }, { count: 0, most: 0 }]);
+  sheet.add(Array.from({ length: KEPT + 6 }, (_, at) => `text ${at % 10}`));
+  assert.deepStrictEqual(sheet.reach("undo"), { count: 70, most: 64 });
+  assert.ok(sheet.undoRedo("undo"));
+  assert.deepStrictEqual([rowOf(sheet, 1), sheet.reach("undo"), sheet.reach("redo")], ["012345", { count: 6, most: 0 }, { count: 64, most: 64 }]);
+  isTrue(sheet);
+});
+
+asked("a script that was tidied is taken back, and what was undone in it can be redone", () => {
+  const sheet = sheetOf();
+  sheet.add(["at 1 1", "text A"]);
+  sheet.add(["at 2 1", "text B"]);
+  sheet.undoRedo("undo");
+  const script = sheet.script();
+  assert.ok(sheet.tidy());
+  sheet.setScript(script);
+  assert.ok(sheet.undoRedo("redo"));
+  assert.strictEqual(rowOf(sheet, 2), "B");
   isTrue(sheet);
 });
 

@@ -38,6 +38,12 @@ test("each change without a kind is a step, and so is what follows one that was 
   assert.deepStrictEqual([other.undoRedo("undo"), other.text], [1, "a"]);
 });
 
+test("of which kind the last step was is known until it is taken back", () => {
+  const steps = stepsOf("abc", ["ab", "deleteContentBackward"], ["b", "tidying"]);
+  const kinds = [1, 2, 3].map(() => [steps.kind(), steps.undoRedo("undo")][0]);
+  assert.deepStrictEqual(kinds, ["tidying", "deleteContentBackward", ""]);
+});
+
 test("after another step nothing is made again, and of another text there are no steps", () => {
   const steps = stepsOf("", ["a", ""]);
   steps.undoRedo("undo");

@@ -19,12 +19,12 @@ test("a word has values in the places of their names", () => {
 
 test("a file is a script by its name, and another is the page", () => {
   const [page, script] = [{ name: "boat.btx" }, { name: "boat.TXT" }];
-  assert.deepStrictEqual(sortedFiles([script, page]), { script, page, rest: [] });
-  assert.deepStrictEqual(sortedFiles([page]), { script: undefined, page, rest: [] });
-  assert.deepStrictEqual(sortedFiles([script]), { script, page: undefined, rest: [] });
-  assert.deepStrictEqual(sortedFiles([]), { script: undefined, page: undefined, rest: [] });
+  assert.deepStrictEqual(sortedFiles([script, page]), { script, page, drawing: undefined, rest: [] });
+  assert.deepStrictEqual(sortedFiles([page]), { script: undefined, page, drawing: undefined, rest: [] });
+  assert.deepStrictEqual(sortedFiles([script]), { script, page: undefined, drawing: undefined, rest: [] });
+  assert.deepStrictEqual(sortedFiles([]), { script: undefined, page: undefined, drawing: undefined, rest: [] });
   const [other, drawing] = [{ name: "house.btx" }, { name: "boat.drawing" }];
-  assert.deepStrictEqual(sortedFiles([drawing, page, script, other, script]), { script, page, rest: [drawing, other] });
+  assert.deepStrictEqual(sortedFiles([drawing, page, script, other, script]), { script, page, drawing, rest: [other] });
   assert.deepStrictEqual([withEnding("boat.btx", ".png"), withEnding("a.b.script", ".txt"), withEnding("boat", "")], ["boat.png", "a.b.txt", "boat"]);
 });
 
@@ -33,8 +33,7 @@ test("what isn't opened is told, and what is taken for a page", () => {
   assert.strictEqual(remarksOn(null, []), "");
   assert.match(remarksOn("boat.png", []), /^boat\.png ist als Seite geöffnet, /);
   assert.match(remarksOn("boat.btx", ["house.btx", "a.txt"]), /^Nicht geöffnet: house\.btx, a\.txt; /);
-  assert.match(remarksOn(null, ["boat.drawing"]), /^boat\.drawing: Zeilen einer Zeichnung /);
-  assert.match(remarksOn("README.md", ["boat.drawing", "x"]), /^README\.md ist .* boat\.drawing: .* Nicht geöffnet: x; /);
+  assert.match(remarksOn("README.md", ["boat.drawing", "x"]), /^README\.md ist .* Nicht geöffnet: boat\.drawing, x; /);
 });
 
 test("what is kept as HTML can end no script in its document", () => {
