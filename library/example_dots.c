@@ -2,6 +2,7 @@
  * A sign that flashes is painted as it is seen. */
 #include <stdio.h>
 #include <stdlib.h>
+#include <unistd.h>
 
 #include "tamligub.h"
 #include "tamligub_signs.h"
@@ -13,6 +14,7 @@ typedef struct {
 
 static tamligub_notice list[TAMLIGUB_ROOM_FOR_A_BYTE];
 static dot dots[HEIGHT][WIDTH];
+static uint8_t bytes[256];
 
 /* A line of twelve dots of a sign. Mosaics have shapes of their own where they are lined; other signs get a line at their foot. */
 static unsigned line_of(const tamligub_notice *it, int row)
@@ -86,11 +88,19 @@ static void paint_all(uint64_t notices)
 int main(void)
 {
     tamligub_decoder decoder = {0};
-    uint64_t notices;
+    uint64_t notices = 0, taken = 1;
+    ssize_t come = 0;
     if (tamligub_open(&decoder) != 0)
         return EXIT_FAILURE;
-    for (int byte; (byte = getchar()) != EOF; paint_all(notices))
-        tamligub_feed(&decoder, &(uint8_t){(uint8_t)byte}, 1, list, TAMLIGUB_ROOM_FOR_A_BYTE, &notices);
+    while (taken > 0 && (come = read(STDIN_FILENO, bytes, sizeof bytes)) > 0)
+        for (uint64_t fed = 0; taken > 0 && fed < (uint64_t)come; fed += taken) {
+            taken = tamligub_feed(&decoder, bytes + fed, (uint64_t)come - fed, list, TAMLIGUB_ROOM_FOR_A_BYTE, &notices);
+            paint_all(notices);
+        }
+    if (come < 0 || taken == 0) {
+        fputs("the page can't be read, or has more than 2^32 bytes\n", stderr);
+        return EXIT_FAILURE;
+    }
     tamligub_finish(&decoder, list, TAMLIGUB_ROOM_FOR_A_BYTE, &notices);
     paint_all(notices);
     tamligub_close(&decoder);

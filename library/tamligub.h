@@ -58,10 +58,17 @@ enum {
  *   out     the text is written at its front, which has room for `room` bytes; what stands after the text stays
  *   put     how many bytes of text were written, at most `room`
  *
+ * How much room is enough: 2904 bytes for `show`, which has 24 lines of 40 signs of three bytes at most; TAMLIGUB_ROOM_FOR_A_PAGE for
+ * `write`, `edit` and `plot`; three times the page for `seven`, the page for `eight`; 140003 bytes for `gen`. Of the other words no bound
+ * is told: `changes` writes 18 to 122 bytes for each byte of the pages of this project, and one byte of a page may change 960 places.
+ * Where the answer is TAMLIGUB_NO_ROOM call again with twice as much room.
+ *
  * No pointer may be null, not even where the length is 0. `out` and `put` may overlap neither each other nor anything else that is
  * handed in; word, page and script may. What is handed in is read during the call alone, and nothing is kept between calls. Several
  * threads may call at once. `check`, `list`, `gen`, `seven` and `eight` take no memory. The other words take it by malloc, and give all of
- * it back; none is taken for the page or the text. A call needs up to 650 KB of the stack of its thread. */
+ * it back; none is taken for the page or the text. A call needs up to 650 KB of the stack of its thread. Where the address space is
+ * limited (ulimit -v) the stack must be that large already: one that can't grow ends the program by SIGSEGV. What `out` and `put` hold
+ * before a call doesn't matter: memory as malloc gives it will do. */
 uint32_t tamligub_run(const uint8_t *word, size_t word_length, uint32_t given, uint32_t number,
                       const uint8_t *page, size_t page_length, const uint8_t *script, size_t script_length,
                       uint8_t *out, size_t room, uint64_t *put);
@@ -75,14 +82,17 @@ uint32_t tamligub_run(const uint8_t *word, size_t word_length, uint32_t given, u
  * - A decoder begins with all of it zero, and from then on these functions alone write into it. It isn't copied while it is open. No two
  *   calls have the same one at a time, and it stays on the thread that opened it; different ones may be used by different threads.
  * - No pointer is null, not even where the length is 0, and none leads into what another one leads to.
- * - All that a call may write to was written before, with anything: a list of notices may begin as zeros. What stands behind the notices
- *   that are written stays as it is.
+ * - What lists, records, texts and numbers hold before a call writes to them doesn't matter: memory as malloc gives it will do, and no
+ *   answer depends on it. What stands behind the notices or bytes that are written stays as it is.
  * - The room for notices is that for a byte, or for a phase of flashing, or more. Where it is less nothing is done.
- * - Each call needs up to 280 KB of the stack of its thread.
+ * - Each call needs up to 280 KB of the stack of its thread, under a limit of the address space as of tamligub_run.
  *
  * A decoder takes all its memory by malloc when it is opened, 247 KB; after that only tamligub_write and tamligub_snapshot take
  * some, and give it back, and the first edit takes about 2.3 MB, which are given back when the decoder is closed.
  * Where a call answers 1 no more was done than that `notices` is 0.
+ *
+ * At the start the display is blank: each of the 24 rows of 40 places has no sign (kind 0), white (15, 15, 15) on black (0, 0, 0), steady.
+ * Neither tamligub_open nor the first bytes tell this: a place is told once an item changes it, so clear the display to it before.
  *
  * Whether the cursor is on is for the host to keep, as no notice and no state tells it: each byte 0x11 that is fed puts it on and each byte
  * 0x14 off, wherever they stand. It is at the active position. Neither a snapshot nor a written page has it: keep it beside them. */
@@ -99,6 +109,10 @@ enum { TAMLIGUB_ROOM_FOR_A_BYTE = 1920, TAMLIGUB_ROOM_FOR_A_PHASE = 960, TAMLIGU
 
 /* By how many bytes a snapshot is longer than the page as bytes, at most. */
 enum { TAMLIGUB_BESIDE_A_PAGE = 1141 };
+
+/* So many bytes are room enough for any page as bytes, and for any snapshot. It is counted over the parts of a written page, not proved:
+ * they have at most 36 bytes for each of 960 places, 110 for each of 94 patterns, 41 for each row, and 266 besides, 46150 in all. */
+enum { TAMLIGUB_ROOM_FOR_A_PAGE = 65536 };
 
 /* A colour: red, green and blue, 0 to 15 each; behind is 1 where what lies behind the screen is shown. */
 typedef struct {
@@ -125,7 +139,8 @@ typedef struct {
  * What flashes goes through six phases, on a terminal of the service six a second: tamligub_flash_turn says what each changes. Of a
  * concealed sign, which is told as any other, the background alone is shown until it is revealed, which is for the host to do. A lined sign
  * has a line at its foot, or, where it is a block mosaic, gaps between its blocks; a boxed one has a dotted frame, also where it is
- * concealed. tamligub_signs.h has the dots of each sign, and docs/PROFILE.md its character, under "Signs in Unicode". */
+ * concealed. tamligub_signs.h has the dots of each sign, and docs/PROFILE.md its character, under "Signs in Unicode". There all mosaics are
+ * U+2592: which blocks one of set 2 has is said under "Drawings", and example_live.c makes of them the characters from U+1FB00 on. */
 typedef struct {
     uint64_t at;                   /* how many bytes stand before the item; of a line all bytes of the page */
     uint8_t kind;

@@ -22,7 +22,8 @@
 //   close()             gives its memory back
 //
 // Notices, states and colours are objects with the fields of tamligub.h; where there is no pattern it is null. What can't be done is
-// thrown; a line outside the grammar as a BadLine with its reason, 1 to 6. Bytes are a Uint8Array; a TypeError says so of anything else.
+// thrown, as a class of its own: Closed, NoSnapshot, TooLong, NoMemory, and BadLine for a line outside the grammar, with the number of its
+// reason, 1 to 6, and its name. Bytes are a Uint8Array, a script may be a string too; a TypeError says so of anything else.
 "use strict";
 
 const PAGE_OF_MEMORY = 65536;
@@ -34,6 +35,9 @@ const NO_MEMORY = 6;
 const TOO_LONG = 7;
 const MOST_ROOM = 1 << 29;
 const MOST_NUMBER = 2 ** 32 - 1;
+const BYTES = "a Uint8Array";
+const BYTES_OR_TEXT = "a Uint8Array or a string";
+const LINE_REASONS = ["UnknownWord", "WrongCount", "BadNumber", "BadText", "BadHex", "BadBytes"];
 
 // What is given: nothing, a page, a page and a script, a number, a page and a number.
 function givenOf({ page, script, number }) {
@@ -43,10 +47,15 @@ function givenOf({ page, script, number }) {
 }
 
 // Bytes that are handed in, of this window or of another one; a Buffer of Node is a Uint8Array too.
-function bytesIn(bytes, takes = "a Uint8Array") {
+function bytesIn(bytes, takes = BYTES) {
     const kind = Object.prototype.toString.call(bytes).slice(8, -1);
     if (kind !== "Uint8Array") throw new TypeError(`it takes bytes, ${takes}, and not ${kind}`);
     return bytes;
+}
+
+// A script, a drawing or a line, as text or as bytes.
+function textIn(text) {
+    return typeof text === "string" ? new TextEncoder().encode(text) : bytesIn(text, BYTES_OR_TEXT);
 }
 
 // Whether a number is whole and in a range; the module would take any other one as one that is.
@@ -54,9 +63,15 @@ function isWithin(number, most) {
     return Number.isInteger(number) && number >= 0 && number <= most;
 }
 
+// The bytes that a call is given: of the word, the page and the script; what isn't given has none.
+function partsOf(word, { page, script }) {
+    const none = new Uint8Array();
+    return [new TextEncoder().encode(word), page === undefined ? none : bytesIn(page), script === undefined ? none : textIn(script)];
+}
+
 function call(module, word, things, room) {
     const { memory, tamligub_run } = new WebAssembly.Instance(module).exports;
-    const parts = [new TextEncoder().encode(word), ...[things.page, things.script].map((bytes) => bytesIn(bytes ?? new Uint8Array()))];
+    const parts = partsOf(word, things);
     const sizes = [8, ...parts.map((part) => part.length), room];
     const starts = [];
     let end = memory.buffer.byteLength;
@@ -74,7 +89,8 @@ function call(module, word, things, room) {
 }
 
 function run(module, word, things = {}) {
-    if (!isWithin(things.number ?? 0, MOST_NUMBER)) throw new RangeError(`${things.number} is no number from 0 to ${MOST_NUMBER}`);
+    const { number = 0 } = things;
+    if (!isWithin(number, MOST_NUMBER)) throw new RangeError(`${number} is no number from 0 to ${MOST_NUMBER}`);
     for (let room = 1 << 20; ; room *= 4) {
         const answer = call(module, word, things, room);
         if (answer.status !== NO_ROOM || room >= MOST_ROOM) return answer;
@@ -152,12 +168,34 @@ function coloursAt(view, at) {
     };
 }
 
-// A line outside the grammar of scripts, and why: 1 UnknownWord, 2 WrongCount, 3 BadNumber, 4 BadText, 5 BadHex, 6 BadBytes.
+// The decoder is closed, its page has ended, or it has not ended yet.
+class Closed extends Error {
+    name = "Closed";
+}
+
+// The bytes are no snapshot.
+class NoSnapshot extends Error {
+    name = "NoSnapshot";
+}
+
+// The line has more than 2^20 bytes, or the page would have more than 2^32.
+class TooLong extends Error {
+    name = "TooLong";
+}
+
+// There is no memory for what was asked for.
+class NoMemory extends Error {
+    name = "NoMemory";
+}
+
+// A line outside the grammar of scripts, and why, by number and name.
 class BadLine extends Error {
+    name = "BadLine";
+
     constructor(reason) {
-        super(`the line is outside the grammar of scripts, for reason ${reason}`);
-        this.name = "BadLine";
+        super(`the line is outside the grammar of scripts: ${LINE_REASONS[reason - 1]}`);
         this.reason = reason;
+        this.reasonName = LINE_REASONS[reason - 1];
     }
 }
 
@@ -232,20 +270,20 @@ class Decoder {
         this.handle = this.shared.handle();
         if (this.call("tamligub_open") !== 0) {
             this.close();
-            throw new Error("there is no memory for a decoder");
+            throw new NoMemory("there is no memory for a decoder");
         }
     }
 
     // A call of the module; its pointers and lengths are BigInt.
     call(name, ...things) {
-        if (this.handle === null) throw new Error("the decoder is closed");
+        if (this.handle === null) throw new Closed("the decoder is closed");
         return this.shared.wasm[name](BigInt(this.handle), ...things);
     }
 
     // The notices of a call that puts them into the list.
     noticesOf(name, fault) {
         const { list, number } = this.shared;
-        if (this.call(name, ...[list, ROOM, number].map(BigInt)) !== 0) throw new Error(fault);
+        if (this.call(name, ...[list, ROOM, number].map(BigInt)) !== 0) throw new Closed(fault);
         return this.shared.notices();
     }
 
@@ -257,7 +295,7 @@ class Decoder {
             const piece = bytes.subarray(0, BYTES_AT_ONCE);
             new Uint8Array(wasm.memory.buffer).set(piece, at);
             const taken = Number(this.call("tamligub_feed", ...[at, piece.length, list, ROOM, number].map(BigInt)));
-            if (taken === 0) throw new Error(this.state().ended ? "the page has ended" : "the decoder takes no more bytes");
+            if (taken === 0) throw this.state().ended ? new Closed("the page has ended") : new TooLong("no page has more than 2^32 bytes");
             after();
             bytes = bytes.subarray(taken);
         }
@@ -281,14 +319,14 @@ class Decoder {
 
     // Makes a line of a script, as text or as bytes, without its end; answers whether there was something to make.
     make(text) {
-        const { shared } = this, line = typeof text === "string" ? new TextEncoder().encode(text) : bytesIn(text, "a Uint8Array or a string");
+        const { shared } = this, line = textIn(text);
         shared.handIn(line);
         const places = [shared.line, line.length, shared.list, ROOM, shared.number, shared.reason].map(BigInt);
         const answer = this.call("tamligub_line", ...places);
         if (answer === 0 || answer === NO_LINE) return answer === 0;
         if (answer === BAD_LINE) throw new BadLine(shared.view().getUint32(shared.reason, true));
-        if (answer === NO_MEMORY) throw new Error("there is no memory for an edit");
-        throw new Error(answer === TOO_LONG ? "the line is too long" : "the page has not ended");
+        if (answer === NO_MEMORY) throw new NoMemory("there is no memory for an edit");
+        throw answer === TOO_LONG ? new TooLong("the line is too long") : new Closed("the page has not ended");
     }
 
     line(text) {
@@ -328,8 +366,8 @@ class Decoder {
         for (;;) {
             const { out, room } = this.shared;
             const status = this.call(name, ...[out, room, number].map(BigInt));
-            if (status === NO_MEMORY) throw new Error("there is no memory for the bytes");
-            if (status === NO_TEXT) throw new Error(fault);
+            if (status === NO_MEMORY) throw new NoMemory("there is no memory for the bytes");
+            if (status === NO_TEXT) throw new Closed(fault);
             if (status !== NO_ROOM) return new Uint8Array(this.shared.wasm.memory.buffer, out, this.shared.put()).slice();
             this.shared.makeRoom();
         }
@@ -352,7 +390,7 @@ class Decoder {
         const status = decoder.call("tamligub_restore", BigInt(shared.out), BigInt(snapshot.length));
         if (status === 0) return decoder;
         decoder.close();
-        throw new Error(status === NO_MEMORY ? "there is no memory for a decoder" : "this is no snapshot");
+        throw status === NO_MEMORY ? new NoMemory("there is no memory for a decoder") : new NoSnapshot("this is no snapshot");
     }
 
     flashStart() {
@@ -371,4 +409,4 @@ class Decoder {
     }
 }
 
-if (typeof exports !== "undefined") Object.assign(exports, { run, Decoder, BadLine });
+if (typeof exports !== "undefined") Object.assign(exports, { run, Decoder, BadLine, Closed, NoMemory, NoSnapshot, TooLong });

@@ -1,14 +1,28 @@
+const TAKEN = "load takes a WebAssembly.Module, its bytes, a Response, or a URL or its text";
+
 // A WebAssembly.Module: of one, of its bytes, of a Response, or of what stands at a place, which is a URL or its text.
 async function compiled(source) {
     if (source instanceof WebAssembly.Module) return source;
     if (source instanceof ArrayBuffer || ArrayBuffer.isView(source)) return WebAssembly.compile(source);
     if (typeof Response !== "undefined" && source instanceof Response) return compiledOf(source, source.url || "the response");
-    const place = String(source);
+    const place = placeOf(source);
     if (place.startsWith("file:") && typeof process !== "undefined" && process.versions?.node) {
         const { readFile } = await import("node:fs/promises");
         return WebAssembly.compile(await readFile(new URL(place)));
     }
     return compiledOf(await fetch(place), place);
+}
+
+// The text of a URL: a browser makes one of the name of what stands beside its page, while a path in Node is none.
+function placeOf(source) {
+    const kind = Object.prototype.toString.call(source).slice(8, -1);
+    if (kind === "Promise") throw new TypeError(`${TAKEN}, and not a Promise: await it before`);
+    if (kind !== "String" && kind !== "URL") throw new TypeError(`${TAKEN}, and not ${kind}`);
+    try {
+        return new URL(source, globalThis.document?.baseURI ?? globalThis.location?.href).href;
+    } catch (fault) {
+        throw new TypeError(`${TAKEN}, and ${source} is none: of a path hand in the bytes`);
+    }
 }
 
 // The module that an answer brings.

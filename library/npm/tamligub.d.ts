@@ -3,8 +3,8 @@
 /** What is given after a word: a page, a page and a script or a drawing, a page and a number, a number, or nothing. */
 export interface Given {
     readonly page?: Uint8Array;
-    /** The lines of a script or a drawing as bytes, at most 2^20. */
-    readonly script?: Uint8Array;
+    /** The lines of a script or a drawing, as text or as bytes, at most 2^20 of them. */
+    readonly script?: Uint8Array | string;
     /** 0 to 4294967295. */
     readonly number?: number;
 }
@@ -139,20 +139,43 @@ export interface Colours {
     readonly dclut: readonly number[];
 }
 
+/** The decoder is closed, its page has ended, or, of a line, it has not ended yet. */
+export class Closed extends Error {
+    readonly name: "Closed";
+}
+
+/** The bytes are no snapshot of a decoder. */
+export class NoSnapshot extends Error {
+    readonly name: "NoSnapshot";
+}
+
+/** The line has more than 2^20 bytes, or the page would have more than 2^32. */
+export class TooLong extends Error {
+    readonly name: "TooLong";
+}
+
+/** There is no memory for what was asked for. */
+export class NoMemory extends Error {
+    readonly name: "NoMemory";
+}
+
 /** A line outside the grammar of scripts: 1 UnknownWord, 2 WrongCount, 3 BadNumber, 4 BadText, 5 BadHex, 6 BadBytes. */
 export class BadLine extends Error {
+    readonly name: "BadLine";
     readonly reason: number;
+    readonly reasonName: string;
 }
 
 /** The module: by default the one of this package, else of its bytes, a Response, or what stands at a place, which is a URL or its text
- * (`file:` in Node); of a path hand in the bytes. */
+ * (`file:` in Node); of a path hand in the bytes. A TypeError says so of anything else. */
 export function load(source?: WebAssembly.Module | BufferSource | Response | URL | string): Promise<WebAssembly.Module>;
 
 /** Runs the program on a word, such as "show" or "changes", and what is given after it. Nothing is kept between calls. A RangeError is thrown
- * of a number that isn't whole or out of its range. */
+ * of a number that isn't whole or out of its range, a TypeError of a page that isn't bytes, null among them. */
 export function run(module: WebAssembly.Module, word: string, given?: Given): Answer;
 
-/** A decoder that is fed bytes as they come, and then edited line by line. Many of them may live in one instance. What can't be done is thrown. */
+/** A decoder that is fed bytes as they come, and then edited line by line. Many of them may live in one instance. What can't be done is thrown:
+ * each class above says when. */
 export class Decoder {
     constructor(host: WebAssembly.Module | WebAssembly.Instance);
     /** A decoder in the state that a snapshot has. What is shown already is told by `look` where flashing hadn't begun, else by `flashStart`.

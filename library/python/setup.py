@@ -1,7 +1,10 @@
-"""Puts the shared library, the module for the web and what btx reads into the wheel, which so is one of this machine's kind."""
+"""Puts the shared library, the module for the web and what btx reads into the wheel, which so is one of this machine's kind. What is
+made on the way lies in a folder that goes with this process, so that nothing stands beside the wheel."""
+import atexit
 import os
 import shutil
 import sys
+import tempfile
 
 from setuptools import setup
 from setuptools.command.build_py import build_py
@@ -45,4 +48,6 @@ class Wheel(bdist_wheel):
         return "py3", "none", super().get_tag()[2]
 
 
-setup(cmdclass={"build_py": Built, "bdist_wheel": Wheel})
+work = tempfile.mkdtemp(prefix="tamligub-wheel-")
+atexit.register(shutil.rmtree, work, ignore_errors=True)
+setup(cmdclass={"build_py": Built, "bdist_wheel": Wheel}, options={"build": {"build_base": work}, "egg_info": {"egg_base": work}})

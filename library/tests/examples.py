@@ -1,9 +1,13 @@
 """The examples in C over the library, and what the shared library exports."""
 import os
+import pty
 import re
+import signal
 import socket
 import subprocess
 import sys
+import tempfile
+import termios
 import threading
 import unicodedata
 
@@ -118,6 +122,78 @@ def terminal_is_right(program, tool):
     return wrong == 0
 
 
+def an_absent_host_is_told(tool):
+    """Whether the terminal says what has to run, where nothing listens at a port, and where it is given a page in place of one."""
+    with socket.create_server(("127.0.0.1", 0)) as server:
+        port = str(server.getsockname()[1])
+    right = True
+    for word in (port, pages()[0], "70000", f"{port}x", ""):
+        done = subprocess.run([tool, word], input=b"", stdout=subprocess.PIPE, stderr=subprocess.PIPE)
+        said = done.stderr.decode()
+        if done.returncode != 1 or not said.startswith(f"{word} is no port") or "btx host" not in said:
+            print(f"example_live {word} says {said!r}")
+            right = False
+    return right
+
+
+def faults_are_told(tools):
+    """Whether the examples say that what they are given can't be read, or is too long, and end with status 1: of a folder and of 2^24 bytes."""
+    right = True
+    with tempfile.TemporaryDirectory(prefix="examples-") as folder:
+        longest, longer = (os.path.join(folder, name) for name in ("longest", "longer"))
+        for path, length in ((longest, 1 << 24), (longer, (1 << 24) + 1)):
+            with open(path, "wb") as file:
+                file.truncate(length)
+        for name, tool in tools.items():
+            for path, status in ((folder, 1), *(((longest, 0), (longer, 1)) if name == "example" else ())):
+                words, given = [tool, path] if name == "example" else [tool], os.open(path, os.O_RDONLY)
+                done = subprocess.run(words, stdin=given, stdout=subprocess.PIPE, stderr=subprocess.PIPE)
+                os.close(given)
+                if done.returncode != status or bool(done.stderr) != bool(status):
+                    print(f"{name} of {os.path.basename(path)}: status {done.returncode}, {done.stderr!r}")
+                    right = False
+    return right
+
+
+def terminal_is_put_back(tool):
+    """Whether a terminal has echo, lines and its cursor after the end of the line, Ctrl C and SIGTERM; and return is sent as 0D."""
+    right = True
+    for way in ("end", "key", "signal"):
+        with socket.create_server(("127.0.0.1", 0)) as server:
+            child, keys = pty.fork()
+            if child == 0:
+                os.execv(tool, [tool, str(server.getsockname()[1])])
+            line, _ = server.accept()
+            with line:
+                line.sendall(b"A")
+                output = read_until(keys, b"A")
+                flags = [termios.tcgetattr(keys)[3] & (termios.ECHO | termios.ICANON)]
+                os.write(keys, b"*\r")
+                heard = line.recv(100) if way != "end" else b"*\r"
+                if way == "key":
+                    os.write(keys, b"\x03")
+                elif way == "signal":
+                    os.kill(child, signal.SIGTERM)
+                else:
+                    line.shutdown(socket.SHUT_WR)
+                output += read_until(keys, b"\x1b[?25h")
+                status = os.waitstatus_to_exitcode(os.waitpid(child, 0)[1])
+            flags.append(termios.tcgetattr(keys)[3] & (termios.ECHO | termios.ICANON))
+            os.close(keys)
+            if status != 0 or flags != [0, termios.ECHO | termios.ICANON] or heard != b"*\r":
+                print(f"example_live, {way}: status {status}, flags {flags}, sent {heard!r}, {output[-40:]!r}")
+                right = False
+    return right
+
+
+def read_until(terminal, end):
+    """What comes from a terminal up to these bytes."""
+    output = b""
+    while end not in output:
+        output += os.read(terminal, 1000)
+    return output
+
+
 def exports_are_right(library):
     """Whether the shared library exports what the header names in its version, and nothing else, and asks for nothing but a C library."""
     found = absent.needed("library/test: what the shared library exports", "readelf")
@@ -140,6 +216,7 @@ def are_right(program, library, build):
     tools = {name: build(name) for name in ("example_feed", "example_live", "example_dots")}
     good = [
         feeds(program, tools["example_feed"]), dots_are_right(program, tools["example_dots"]), terminal_is_right(program, tools["example_live"]),
-        exports_are_right(library),
+        an_absent_host_is_told(tools["example_live"]), faults_are_told({**tools, "example": build("example")}),
+        terminal_is_put_back(tools["example_live"]), exports_are_right(library),
     ]
     return all(good)

@@ -120,6 +120,15 @@ def held(data: bytes | bytearray | memoryview, takes: str = "bytes, a bytearray 
         raise TypeError(f"it takes {takes}, and not {type(data).__name__}") from None
 
 
+def held_text(text: str | bytes | bytearray | memoryview) -> bytes:
+    """A script, a drawing or a line, as bytes.
+
+    >>> held_text("text AB")
+    b'text AB'
+    """
+    return text.encode() if isinstance(text, str) else held(text, "a str, bytes, a bytearray or a memoryview")
+
+
 def address(data: bytes) -> int:
     """Where bytes stand, as long as they are kept."""
     found = ctypes.cast(ctypes.c_char_p(data), ctypes.c_void_p).value

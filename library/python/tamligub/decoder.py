@@ -112,7 +112,7 @@ class Decoder:
         """Ends the page, and answers what its end says. `Closed` where it had ended before."""
         return self._noticed("tamligub_finish", "the page has ended")
 
-    def line(self, line: str | bytes) -> Notices | None:
+    def line(self, line: str | bytes | bytearray | memoryview) -> Notices | None:
         """Makes a line of a script, such as "at 1 2" or "undo", after the page has ended. Answers each place that it changes, once, with its
         look after it, or None where there is nothing to make: of an empty line, of a comment, and of an undo and a redo that find no edit.
         `BadScript` where the line is outside the grammar, `Closed` before the end of the page.
@@ -124,7 +124,7 @@ class Decoder:
         >>> len(decoder.line("undo")), decoder.line("undo"), decoder.kept(), decoder.undone()
         (1, None, 0, 1)
         """
-        handle, held = self._own(), line.encode() if isinstance(line, str) else binding.held(line, "a str or bytes")
+        handle, held = self._own(), binding.held_text(line)
         start, count, reason = binding.address(held), shared.count, shared.reason
         answer = self._calls.tamligub_line(handle, start, len(held), shared.list, ROOM, count, reason)
         if answer == binding.BAD_LINE:

@@ -81,25 +81,25 @@ def write(page: bytes | bytearray | memoryview) -> bytes:
     return text_of("write", binding.held(page))
 
 
-def edit(page: bytes | bytearray | memoryview, script: bytes | bytearray | memoryview) -> bytes:
+def edit(page: bytes | bytearray | memoryview, script: str | bytes | bytearray | memoryview) -> bytes:
     """The page after the edits of a script, as bytes like those of `write`. `BadScript` names a line that can't be read.
 
-    >>> show(edit(b"", b"at 1 3\\ntext Hallo\\n")).splitlines()[0].rstrip()
+    >>> show(edit(b"", "at 1 3\\ntext Hallo\\n")).splitlines()[0].rstrip()
     '  Hallo'
     >>> edit(b"", b"at 1 2\\nat 300 1\\n")
     Traceback (most recent call last):
     tamligub.faults.BadScript: line 2: BadNumber
     """
-    return text_of("edit", binding.held(page), binding.held(script))
+    return text_of("edit", binding.held(page), binding.held_text(script))
 
 
-def plot(page: bytes | bytearray | memoryview, drawing: bytes | bytearray | memoryview) -> bytes:
+def plot(page: bytes | bytearray | memoryview, drawing: str | bytes | bytearray | memoryview) -> bytes:
     """The page with a drawing on its field of 80 by 72 points, as bytes like those of `write`. `BadScript` names a line that can't be read.
 
-    >>> show(plot(b"", b"plot 0 0\\n"))[0] == " "
+    >>> show(plot(b"", "plot 0 0\\n"))[0] == " "
     False
     """
-    return text_of("plot", binding.held(page), binding.held(drawing))
+    return text_of("plot", binding.held(page), binding.held_text(drawing))
 
 
 def seven(page: bytes | bytearray | memoryview) -> bytes:
