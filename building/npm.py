@@ -7,20 +7,20 @@ from building import ROOT
 SOURCE = os.path.join(ROOT, "library", "npm")
 SCRIPT = os.path.join(ROOT, "library", "tamligub.js")
 FOLDER = "npm"
-EXPORTS = 'if (typeof exports !== "undefined") Object.assign(exports, { run, Decoder, BadLine });\n'
+EXPORTS = 'if (typeof exports !== "undefined") Object.assign(exports, { run, Decoder, BadLine, Closed, NoMemory, NoSnapshot, TooLong });\n'
 # The last lines of each script: where its module stands, and what it exports.
 LAST = {
     "tamligub.mjs": """
 // The module of this package, or of another source.
 const load = (source = new URL("tamligub.wasm", import.meta.url)) => compiled(source);
 
-export { BadLine, Decoder, load, run };
+export { BadLine, Closed, Decoder, NoMemory, NoSnapshot, TooLong, load, run };
 """,
     "tamligub.cjs": """
 // The module of this package, or of another source.
 const load = (source = require("node:url").pathToFileURL(require("node:path").join(__dirname, "tamligub.wasm"))) => compiled(source);
 
-module.exports = { BadLine, Decoder, load, run };
+module.exports = { BadLine, Closed, Decoder, NoMemory, NoSnapshot, TooLong, load, run };
 """,
 }
 COPIED = ("package.json", "README.md", "example.html", "tamligub.d.ts")
