@@ -65,11 +65,13 @@ function isThrown(call, text) {
 
 // Each call that takes bytes says so of what is none.
 function sayWhatTheyTake(module, decoder) {
-    const calls = [(data) => decoder.feed(data), (data) => decoder.skim(data), (data) => Decoder.restored(module, data),
-        (page) => run(module, "show", { page }), (script) => run(module, "edit", { page: new Uint8Array(), script })];
+    const bytes = [(data) => decoder.feed(data), (data) => decoder.skim(data), (data) => Decoder.restored(module, data),
+        (page) => run(module, "show", { page })];
+    const texts = [(line) => decoder.line(line), (script) => run(module, "edit", { page: new Uint8Array(), script })];
     const things = [["A", "String"], [5, "Number"], [[65], "Array"], [new ArrayBuffer(1), "ArrayBuffer"]];
-    const cases = things.flatMap(([thing, kind]) => calls.map((call) => [call, thing, `a Uint8Array, and not ${kind}`]));
-    for (const [call, thing, said] of [...cases, [(line) => decoder.line(line), 5, "a Uint8Array or a string, and not Number"]]) {
+    const cases = things.flatMap(([thing, kind]) => bytes.map((call) => [call, thing, `a Uint8Array, and not ${kind}`]));
+    const ofTexts = things.slice(1).flatMap(([thing, kind]) => texts.map((call) => [call, thing, `a Uint8Array or a string, and not ${kind}`]));
+    for (const [call, thing, said] of [...cases, ...ofTexts]) {
         try {
             call(thing);
             fail(`${call} takes ${thing}`);
@@ -78,8 +80,8 @@ function sayWhatTheyTake(module, decoder) {
         }
     }
     // Bytes of another context, and those of Node.
-    for (const bytes of [vm.runInNewContext("Uint8Array.of(65)"), Buffer.from("A")]) {
-        if (new Decoder(module).feed(bytes).length !== 1) fail("bytes of another kind say nothing");
+    for (const given of [vm.runInNewContext("Uint8Array.of(65)"), Buffer.from("A")]) {
+        if (new Decoder(module).feed(given).length !== 1) fail("bytes of another kind say nothing");
     }
 }
 
