@@ -231,7 +231,7 @@ class Npm(stand.Case):
         for name, text in npm.scripts().items():
             self.assertNotIn("typeof exports", text)
             self.assertIn("class Decoder {", text)
-            names = "{ BadLine, Decoder, load, run };"
+            names = "{ BadLine, Closed, Decoder, NoMemory, NoSnapshot, TooLong, load, run };"
             self.assertIn(f"export {names}" if name.endswith(".mjs") else f"module.exports = {names}", text)
 
     def test_the_types_name_all_calls(self):
