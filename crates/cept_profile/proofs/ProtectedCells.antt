@@ -1,7 +1,7 @@
 -- Protected cells, and wiped ones.
 use Rattle.std.proofs.Common.{◌≡◌, ◌≢◌, ℕ, ◌+◌, ◌-◌, ◌≤◌, ◌<◌, ◌⊎◌, Bool, cond, false, not, ◌&&◌, eqb, leb, List, [], ◌∷◌, ◌++◌, refl}
 use Rattle.std.proofs.Common.{sym, ◌∙◌, subst, inl, inr, arith}
-use Rattle.std.proofs.Common.{Option, Some}
+use Rattle.std.proofs.Common.{Option, None, Some}
 use Rattle.std.proofs.Common.{ap}
 use Rattle.std.specs.List.{Contains, list_any}
 use Rattle.cept_codes.specs.declared.command.Up.TheVariants as ways
@@ -17,7 +17,7 @@ use Rattle.cept_codes.specs.Place.{Place, OnScreen}
 use Rattle.cept_codes.specs.Table.{value_at}
 use Rattle.cept_codes.proofs.Laws.{value_at-table}
 use Rattle.cept_profile.specs.Cells.{is_at, cell_after, cells_after, cells_after_all, moves}
-use Rattle.cept_profile.specs.Cells.{shifted, value_after_move}
+use Rattle.cept_profile.specs.Cells.{shifted}
 use Rattle.cept_profile.proofs.PaintedPlaces.{place-is_at}
 use Rattle.cept_profile.specs.MovedRows.{MovedRows, moved_rows}
 
@@ -100,6 +100,11 @@ cells_after_all-protected cells (x ∷ xs) r c on protected out =
     ]
 
 -- ---- shifts
+
+-- what is at row r after these rows moved, by what was at each row, with a blank one for the row that came free
+abbrev value_after_move : {X : Type 0} → Option MovedRows → X → (ℕ → X) → ℕ → X
+value_after_move None blank was r = was r
+value_after_move (Some moved) blank was r = shifted moved.way moved.first moved.last blank was r
 
 -- what a stroke that moves rows leaves at a place is told by the rows that it moves
 cell_after-moved : (stroke : Stroke) (moved : MovedRows) (was : ℕ → ℕ → Cell) (r c : ℕ) → moved_rows stroke ≡ Some moved

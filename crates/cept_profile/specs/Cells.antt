@@ -34,11 +34,6 @@ cell_after (strokes.Carry first last way) was r c = shifted way first last blank
 -- any other changes no cell
 cell_after _ was r c = was r c
 
--- what is at row r after these rows moved, by what was at each row, with a blank one for the row that came free
-abbrev pub value_after_move : {X : Type 0} → Option MovedRows → X → (ℕ → X) → ℕ → X
-value_after_move None blank was r = was r
-value_after_move (Some moved) blank was r = shifted moved.way moved.first moved.last blank was r
-
 -- the stroke moves rows
 abbrev pub moves_rows : Stroke → Bool
 moves_rows stroke = is_some (moved_rows stroke)

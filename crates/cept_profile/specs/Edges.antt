@@ -10,14 +10,22 @@ pub record Edges : Type 0 where
   pub rows : ℕ
   pub area : Option (ℕ × ℕ)
 
--- the edges of a core: under the second revision no sign crosses those of an area within the format
+-- the edges of so many rows under a revision: under the second no sign crosses those of an area within the format
+abbrev pub edges_under : ℕ → ℕ → Option (ℕ × ℕ) → Edges
+edges_under rows revision area = record { rows = rows; area = if revision == 2 then area_within rows area else None }
+
+-- the edges of a core
 abbrev pub edges_of_core : Core → Edges
-edges_of_core k = record { rows = k.rows; area = if k.revision == 2 then area_within k.rows k.area else None }
+edges_of_core k = edges_under k.rows k.revision k.area
 
 -- the edges under a control state, which are those of the core that is of it
 abbrev pub edges_of : ControlState → Edges
-edges_of s = record { rows = s.rows; area = if s.revision == 2 then area_within s.rows s.area else None }
+edges_of s = edges_under s.rows s.revision s.area
 
--- the row is last: from the last one of the format on all are, and the one above the area and the area's last
+-- the row is at an edge of the area, if there is one: it is the one above its first, or its last
+abbrev pub is_at_edge : Option (ℕ × ℕ) → ℕ → Bool
+is_at_edge area r = option_map_or (λ edges. r + 1 == edges.0 || r == edges.1) area false
+
+-- the row is last: from the last one of the format on all are, and those at an edge
 abbrev pub is_last : Edges → ℕ → Bool
-is_last edges r = nat_le edges.rows r || option_map_or (λ area. r + 1 == area.0 || r == area.1) edges.area false
+is_last edges r = nat_le edges.rows r || is_at_edge edges.area r

@@ -46,21 +46,27 @@ strokes_of_scroll s way (Some area) =
 
 -- ---- motions, each with its strokes
 
--- one row down, to column c: at the last row of an area that scrolls its rows go up, and the row stays; else from the last
--- row it goes to row 1 with wrap, and stays without
+-- the row below, where no area scrolls: from the last row it is row 1 with wrap, and the row itself without
+abbrev pub row_below : ControlState → ℕ
+row_below s = let r = s.working.row in if r == s.rows then (if s.wrap then 1 else r) else r + 1
+
+-- the row above, where no area scrolls: from row 1 it is the last row with wrap, and the row itself without
+abbrev pub row_above : ControlState → ℕ
+row_above s = let r = s.working.row in if r == 1 then (if s.wrap then s.rows else r) else r - 1
+
+-- one row down, to column c: at the last row of an area that scrolls its rows go up, and the row stays
 abbrev pub below : ControlState → ℕ → Working × List Stroke
 below s c =
     let r = s.working.row in
     if is_last_of (scrolling_area s) r then (working_at r c s.working, strokes_of_scroll s ways.Up (scrolling_area s)) else
-    (working_at (if r == s.rows then (if s.wrap then 1 else r) else r + 1) c s.working, [])
+    (working_at (row_below s) c s.working, [])
 
--- one row up, to column c: at the first row of an area that scrolls its rows go down, and the row stays; else from row 1 it
--- goes to the last row with wrap, and stays without
+-- one row up, to column c: at the first row of an area that scrolls its rows go down, and the row stays
 abbrev pub above : ControlState → ℕ → Working × List Stroke
 above s c =
     let r = s.working.row in
     if is_first_of (scrolling_area s) r then (working_at r c s.working, strokes_of_scroll s ways.Down (scrolling_area s)) else
-    (working_at (if r == 1 then (if s.wrap then s.rows else r) else r - 1) c s.working, [])
+    (working_at (row_above s) c s.working, [])
 
 -- n columns on: past the last column it goes to the first of the row below with wrap, and to the last without
 abbrev pub ahead : ControlState → ℕ → Working × List Stroke

@@ -1,6 +1,6 @@
 //! Laws of the start: before any command nothing is written and each place has the blank look.
 //! Clearing takes all cells and the attributes of all rows, and nothing else of the page.
-ghost use Rattle.std.specs.Prelude.{◌≡◌, ℕ, List, [], ◌∷◌, ◌++◌};
+ghost use Rattle.std.specs.Prelude.{◌≡◌, ℕ, []};
 ghost use Rattle.cept_codes.specs.declared.command.Command.{Command};
 ghost use Rattle.cept_codes.specs.Attribute.{IsScreenPen, unset_pen};
 ghost use Rattle.cept_codes.specs.Look.{blank_look};

@@ -2,7 +2,6 @@
 //! which it came.
 ghost use Rattle.std.specs.Prelude.{◌≡◌, ℕ, ◌-◌, ◌≤◌, false, Some, IsSomeAnd, IsTrue, List};
 ghost use Rattle.std.specs.List.{AllByRecursion, count_by, list_any, range_with_len};
-ghost use Rattle.cept_codes.specs.declared.cell.Cell.{Cell};
 ghost use Rattle.cept_codes.specs.declared.command.Command.{Command};
 ghost use Rattle.cept_codes.specs.declared.stroke.Stroke.{Stroke};
 ghost use Rattle.cept_codes.specs.Cell.{blank_cell};

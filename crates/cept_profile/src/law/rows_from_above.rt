@@ -1,6 +1,6 @@
 //! Laws of rows: the looks of a row are made of its own cells and of the looks of the row above,
 //! and stay where these stay.
-ghost use Rattle.std.specs.Prelude.{◌≡◌, ℕ, ◌+◌, ◌-◌, ◌≤◌, Bool, false, List, map, IsTrue, IsFalse};
+ghost use Rattle.std.specs.Prelude.{◌≡◌, ℕ, ◌-◌, ◌≤◌, Bool, false, List, map, IsTrue, IsFalse};
 ghost use Rattle.cept_codes.specs.declared.attribute.Size.{Size};
 ghost use Rattle.cept_codes.specs.declared.attribute.Size.TheVariants as sizes;
 ghost use Rattle.cept_codes.specs.declared.look.Look.{Look};
@@ -10,7 +10,7 @@ ghost use Rattle.cept_codes.specs.Table.{IsTable};
 ghost use Rattle.cept_profile.specs.Edges.{edges_of_core, is_last};
 ghost use Rattle.cept_profile.specs.Look.{look, looks_of, own_look};
 ghost use Rattle.cept_profile.specs.Look.{own_size, part_of, parts_of};
-ghost use Rattle.cept_profile.specs.RowsFromAbove.{covering, is_covered_otherwise, look_by, look_seen};
+ghost use Rattle.cept_profile.specs.RowsFromAbove.{covering, is_covered_otherwise, look_seen};
 ghost use Rattle.cept_profile.specs.RowsFromAbove.{look_of_origin, look_with_part, looks_in, row_from_above};
 ghost use Rattle.cept_profile.specs.State.{Core};
 ghost use Rattle.cept_profile.specs.Tiling.{IsTiled, covers_below, is_covered_from_left, part_at};

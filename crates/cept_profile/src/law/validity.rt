@@ -53,8 +53,8 @@ pub fn strokes_are_valid()
 {}
 
 /// What stands in a valid cell has a valid look, by itself and in a row of valid cells, where what
-/// signs are drawn with is valid, as on a valid page, and a row beneath valid looks has valid ones. So the looks of a core with a valid page are valid, and so
-/// is the grid after any list of valid commands.
+/// signs are drawn with is valid, as on a valid page, and a row beneath valid looks has valid ones. So
+/// the looks of a core with a valid page are valid, and so is the grid after any list of valid commands.
 pub fn looks_are_valid()
     ensures of_cell { (defined : Definitions) (row screen : Pen) (what : What)
         → AreValidDefinitions defined → IsValidWhat what
