@@ -1,6 +1,5 @@
-ghost use Rattle.std.specs.Prelude.{◌≡◌, ◌≢◌, ◌+◌, ◌==◌, ◌||◌, true, false, Option};
-ghost use Rattle.std.specs.Option.{option_map_or};
-ghost use Rattle.cept_profile.specs.Edges.{edges_of, is_last};
+ghost use Rattle.std.specs.Prelude.{◌≡◌, ◌≢◌, true, false, Option};
+ghost use Rattle.cept_profile.specs.Edges.{edges_of, is_at_edge, is_last};
 
 use crate::control::Control;
 use std::marker::Model;
@@ -42,7 +41,7 @@ impl Edges {
 
 /// Whether the row is the one above the area, or its last.
 fn is_at_edge(area: Option<(u8, u8)>, row: u8) -> bool
-    ensures { result ≡ option_map_or (λ edges. row + 1 == edges.0 || row == edges.1) area false }
+    ensures { result ≡ is_at_edge area row }
 {
     match area {
         Some((first, last)) => (row < first && first - row == 1) || row == last,

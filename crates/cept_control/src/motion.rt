@@ -1,8 +1,8 @@
-ghost use Rattle.std.specs.Prelude.{◌≡◌, ◌+◌, ◌-◌, ◌≤◌, ◌<◌, ◌==◌, ◌++◌, false, if◌then◌else◌, length};
+ghost use Rattle.std.specs.Prelude.{◌≡◌, ◌≤◌, ◌<◌, ◌++◌, false, length};
 ghost use Rattle.cept_codes.specs.Place.{OnScreen};
 ghost use Rattle.cept_control.specs.inside.Taking.{CanTake};
 ghost use Rattle.cept_profile.specs.Control.{control_with, effect, working_afresh, working_at};
-ghost use Rattle.cept_profile.specs.Motions.{above, ahead, below};
+ghost use Rattle.cept_profile.specs.Motions.{above, ahead, below, row_above, row_below};
 
 use crate::area::{is_first_of, is_last_of};
 use crate::control::Control;
@@ -161,8 +161,7 @@ impl Control {
 
     /// The row below the active one, where no area scrolls.
     fn row_below(&self) -> u8
-        ensures row { result ≡ (if self.now.working.row == self.now.rows then
-            (if self.now.wrap then 1 else self.now.working.row) else self.now.working.row + 1) }
+        ensures row { result ≡ row_below self.now }
         ensures from_top { 1 ≤ result }
         ensures within { result ≤ self.now.rows }
     {
@@ -177,9 +176,7 @@ impl Control {
 
     /// The row above the active one, where no area scrolls.
     fn row_above(&self) -> u8
-        ensures row { result ≡ (if self.now.working.row == 1 then
-            (if self.now.wrap then self.now.rows else self.now.working.row)
-            else self.now.working.row - 1) }
+        ensures row { result ≡ row_above self.now }
         ensures from_top { 1 ≤ result }
         ensures within { result ≤ self.now.rows }
     {
