@@ -1,5 +1,5 @@
 -- A row of which some columns get another look (own): all at once, or the flagged ones one after the other.
-use Rattle.std.specs.Prelude.{ℕ, ◌-◌, Bool, false, not, List, if◌then◌else◌}
+use Rattle.std.specs.Prelude.{ℕ, Bool, false, not, List, if◌then◌else◌}
 use Rattle.cept_codes.specs.declared.look.Look.{Look}
 use Rattle.cept_codes.specs.Look.{blank_look}
 use Rattle.cept_codes.specs.Same.{same_look}

@@ -1,4 +1,4 @@
-ghost use Rattle.std.specs.Prelude.{◌≡◌, true, false, None, IfSome, Option, is_some};
+ghost use Rattle.std.specs.Prelude.{◌≡◌, true, false, None, IfSome, Option};
 ghost use Rattle.cept_codes.specs.Attribute.{IsValidFull, IsValidPen, unset_pen};
 ghost use Rattle.cept_codes.specs.Cell.{IsValidWhat};
 ghost use Rattle.cept_codes.specs.Glyph.{IsValidGlyph};

@@ -544,7 +544,9 @@ impl RowLooks {
     /// none is and none does. It keeps no look that it had.
     #[inline(always)]
     pub(crate) fn clear(&mut self)
-        ensures { length self.new ≡ 40 }
+        ensures columns { length self.new ≡ 40 }
+        ensures plain { HasNoPatterns self.new }
+        ensures low { (c : ℕ) → covers_below (part_of (look_at self.new c)) ≡ false }
     {
         if self.patterned | self.tall {
             self.looks = [SmallLook::BLANK; 40];

@@ -1,5 +1,4 @@
 -- What private clauses say beside `KeptNames` (this project's own).
-use Rattle.std.specs.Prelude.{◌-◌}
 use Rattle.cept_profile.specs.Names.{Names}
 use Rattle.cept_rows.specs.declared.naming.PlaceNames.{PlaceNames}
 use Rattle.cept_rows.specs.KeptNames.{code_kept}

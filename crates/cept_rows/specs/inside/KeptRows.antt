@@ -1,5 +1,5 @@
 -- What private clauses say beside `KeptRows` (this project's own).
-use Rattle.std.specs.Prelude.{ℕ, ◌≡◌, ◌-◌, false, List}
+use Rattle.std.specs.Prelude.{ℕ, ◌≡◌, false, List}
 use Rattle.cept_codes.specs.declared.look.Look.{Look}
 use Rattle.cept_codes.specs.Look.{blank_look}
 use Rattle.cept_profile.specs.Tiling.{column_entry}

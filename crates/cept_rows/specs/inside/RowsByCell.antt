@@ -1,5 +1,5 @@
 -- What private clauses say beside `RowsByCell` (this project's own).
-use Rattle.std.specs.Prelude.{◌-◌, if◌then◌else◌, Bool, true, false, List, Option, None}
+use Rattle.std.specs.Prelude.{if◌then◌else◌, Bool, true, false, List, Option, None}
 use Rattle.cept_codes.specs.declared.cell.What.{What}
 use Rattle.cept_codes.specs.declared.cell.What.TheVariants as whats
 use Rattle.cept_codes.specs.declared.glyph.Glyph.{Glyph}
