@@ -13,7 +13,8 @@ use Rattle.cept_profile.specs.Changes.{changes}
 use Rattle.cept_run.specs.Words.{is_counted, is_painted}
 use Rattle.cept_run.specs.declared.words.ReportOptions.{ReportOptions}
 use Rattle.cept_run.specs.Events.{history, item_event, item_events}
-use Rattle.cept_run.specs.Reporting.{painted_count, counted_places}
+use Rattle.cept_run.specs.Events.{painted_count}
+use Rattle.cept_run.specs.Reporting.{counted_places}
 use Rattle.cept_run.proofs.EventsOfItems.{item_events-none, item_events-more}
 use Rattle.cept_run.proofs.PaintedItems.{applied_changes, refused_changes, checked_changes}
 

@@ -1,6 +1,6 @@
 -- The text at the end, by what is asked for.
 use Rattle.std.proofs.Common.{◌≡◌, ℕ, Bool, true, false, cond, List, Some, None, length, Result, refl, sym}
-use Rattle.std.proofs.Common.{◌∙◌, subst}
+use Rattle.std.proofs.Common.{◌∙◌, ap, subst}
 use Rattle.std.proofs.lemmas.Option.{none-some, same_Some}
 use Rattle.cept_codes.specs.declared.command.Command.{Command}
 use Rattle.cept_codes.specs.declared.look.Look.{Look}
@@ -9,12 +9,8 @@ use Rattle.cept_parser.specs.Items.{closed_items}
 use Rattle.cept_profile.specs.State.{State, state}
 use Rattle.cept_run.specs.declared.words.ReportOptions.{ReportOptions}
 use Rattle.cept_run.specs.declared.words.End.{End}
-use Rattle.cept_run.specs.declared.words.End.TheVariants as ends
-use Rattle.cept_run.specs.declared.words.Way.{Way}
-use Rattle.cept_run.specs.declared.words.Way.TheVariants as ways
-use Rattle.cept_run.specs.Events.{end_text, refused_count}
+use Rattle.cept_run.specs.Events.{counts_text, end_text, painted_end, refused_count}
 use Rattle.cept_run.specs.Reporting.{Plan, ReporterState, StandsAtEnd, remaining_at_end, screen_of}
-use Rattle.cept_run.specs.inside.Reporting.{counts_text, painted_end, text_at_end}
 use Rattle.cept_run.specs.Words.{is_painted}
 
 -- the end that is asked for is this one
@@ -26,32 +22,20 @@ end_as one other options shown page commands s t result is puts =
     subst (λ (e : End). PutsText s (painted_end e options shown page commands) result t) is puts
 
 -- the text at the end of a page that was painted, and of one that wasn't
-painted_by : (way : Way) (end : End) (options : ReportOptions) (shown : List (List Look)) (page : List ℕ)
-    (commands : List Command) → is_painted way ≡ true
-    → painted_end end options shown page commands ≡ end_text way end options shown page commands
-painted_by ways.Count end options shown page commands is = cc
-painted_by ways.List end options shown page commands is = cc
-painted_by ways.Paint ends.Nothing options shown page commands is = refl
-painted_by ways.Paint ends.Screen options shown page commands is = refl
-painted_by ways.Paint ends.Cells options shown page commands is = refl
-painted_by ways.Paint ends.Page options shown page commands is = refl
-painted_by ways.Paint ends.Counts options shown page commands is = refl
-painted_by ways.Paint (ends.Phases turns) options shown page commands is = refl
-painted_by ways.PaintAndList ends.Nothing options shown page commands is = refl
-painted_by ways.PaintAndList ends.Screen options shown page commands is = refl
-painted_by ways.PaintAndList ends.Cells options shown page commands is = refl
-painted_by ways.PaintAndList ends.Page options shown page commands is = refl
-painted_by ways.PaintAndList ends.Counts options shown page commands is = refl
-painted_by ways.PaintAndList (ends.Phases turns) options shown page commands is = refl
+pub painted_by : (options : ReportOptions) (shown : List (List Look)) (page : List ℕ) (commands : List Command)
+    → is_painted options.way ≡ true
+    → end_text options shown page commands ≡ painted_end options.end options shown page commands
+painted_by options shown page commands is =
+    ap (λ b. cond b (painted_end options.end options shown page commands)
+    (counts_text options.way (length (closed_items page)) (refused_count (closed_items page)))) is
 
-counted_by : (way : Way) (end : End) (options : ReportOptions) (shown : List (List Look)) (page : List ℕ)
-    (commands : List Command) → is_painted way ≡ false
-    → counts_text way (length (closed_items page)) (refused_count (closed_items page))
-    ≡ end_text way end options shown page commands
-counted_by ways.Count end options shown page commands is = refl
-counted_by ways.List end options shown page commands is = refl
-counted_by ways.Paint end options shown page commands is = cc
-counted_by ways.PaintAndList end options shown page commands is = cc
+counted_by : (options : ReportOptions) (shown : List (List Look)) (page : List ℕ) (commands : List Command)
+    → is_painted options.way ≡ false
+    → end_text options shown page commands
+    ≡ counts_text options.way (length (closed_items page)) (refused_count (closed_items page))
+counted_by options shown page commands is =
+    ap (λ b. cond b (painted_end options.end options shown page commands)
+    (counts_text options.way (length (closed_items page)) (refused_count (closed_items page)))) is
 
 module _ (plan : Plan) (reporter : ReporterState) (page : List ℕ)
     (stands : StandsAtEnd plan reporter (closed_items page)) where
@@ -78,18 +62,18 @@ module _ (plan : Plan) (reporter : ReporterState) (page : List ℕ)
   -- so the text at the end is one or the other
   pub painted_text : {X E : Type 0} (shown : List (List Look)) (s t : SinkState) (result : Result X E)
       → is_painted plan.options.way ≡ true → PutsText s (painted_end plan.options.end plan.options shown page all) result t
-      → PutsText s (text_at_end plan.options shown page all) result t
+      → PutsText s (end_text plan.options shown page all) result t
   painted_text shown s t result is puts =
       subst (λ (text : List ℕ). PutsText s text result t)
-      (painted_by plan.options.way plan.options.end plan.options shown page all is) puts
+      (sym (painted_by plan.options shown page all is)) puts
 
   pub counted_text : {X E : Type 0} (shown : List (List Look)) (s t : SinkState) (result : Result X E)
       → is_painted plan.options.way ≡ false
       → PutsText s (counts_text reporter.options.way reporter.items reporter.refused) result t
-      → PutsText s (text_at_end plan.options shown page all) result t
+      → PutsText s (end_text plan.options shown page all) result t
   counted_text shown s t result is puts =
       subst (λ (text : List ℕ). PutsText s text result t)
-      (counted_by plan.options.way plan.options.end plan.options shown page all is)
+      (sym (counted_by plan.options shown page all is))
       (subst (λ (a : ReportOptions). PutsText s (counts_text a.way (length (closed_items page)) (refused_count (closed_items page)))
       result t) stands.options_are
       (subst (λ n. PutsText s (counts_text reporter.options.way n (refused_count (closed_items page))) result t) stands.items

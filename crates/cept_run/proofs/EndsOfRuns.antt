@@ -32,7 +32,7 @@ use Rattle.cept_run.specs.Reporting.{Plan, sequel_of, edited_events, remaining_a
 use Rattle.cept_run.specs.Run.{Restores, EndsWhole, IsReportCut, Ends, ReportsFirst, IsScriptFirst}
 use Rattle.cept_run.specs.Run.{RunsCourse, status_of, status_at_end}
 use Rattle.cept_run.specs.Taking.{AreLeft, TakesWhole}
-use Rattle.cept_run.specs.inside.Reporting.{text_at_end}
+use Rattle.cept_run.specs.Events.{end_text}
 use Rattle.cept_run.specs.inside.ScriptReading.{ScriptKnown}
 use Rattle.cept_run.specs.Words.{is_painted}
 use Rattle.cept_run.proofs.EditedLines.{edited_events-none}
@@ -365,7 +365,7 @@ module _ (plan : Plan) (name : List ℕ) (script : ScriptSource) (told : List �
             (output_of sink after.glass)) lines_are made_all
 
         abbrev end_put : List ℕ
-        end_put = text_at_end options after.glass.grid bytes (all options script bytes told)
+        end_put = end_text options after.glass.grid bytes (all options script bytes told)
 
         idle_run : is_painted options.way ≡ false → after.glass ≡ before.glass
         idle_run idle = made.painted.untouched (still_edited idle)
@@ -403,8 +403,8 @@ module _ (plan : Plan) (name : List ℕ) (script : ScriptSource) (told : List �
             (omega (arith, puts.0.later, sink_stays)))
 
         pub ends_put : (result : Result Bool Stop)
-            → PutsEnd (text_at_end options after.glass.grid bytes (remaining_at_end plan (closed_items bytes)))
+            → PutsEnd (end_text options after.glass.grid bytes (remaining_at_end plan (closed_items bytes)))
             (nat_lt 0 (refused_count (closed_items bytes))) sink result after.sink → RunsCourse course before after (status_at_end result)
         ends_put result puts = by_end result
-            (subst (λ (h : List Command). PutsEnd (text_at_end options after.glass.grid bytes h)
+            (subst (λ (h : List Command). PutsEnd (end_text options after.glass.grid bytes h)
             (nat_lt 0 (refused_count (closed_items bytes))) sink result after.sink) all_is puts)

@@ -7,47 +7,12 @@ use Rattle.std.proofs.Common.{refl, sym, ap, ◌∙◌, append_assoc, append-nil
 use Rattle.cept_codes.specs.declared.command.Command.{Command}
 use Rattle.cept_codes.specs.declared.item.Item.{Item}
 use Rattle.cept_codes.specs.declared.item.Reason.{Reason}
-use Rattle.cept_codes.specs.declared.item.Said.{Said}
 use Rattle.cept_codes.specs.declared.item.Said.TheVariants as said
-use Rattle.cept_codes.specs.declared.look.Look.{Look}
-use Rattle.cept_codes.specs.Place.{Place}
 use Rattle.cept_parser.specs.Items.{commands_of, command_said, is_refusal}
 use Rattle.cept_run.specs.declared.words.ReportOptions.{ReportOptions}
 use Rattle.cept_editor.specs.Events.{Event}
-use Rattle.cept_run.specs.declared.words.Way.{Way}
-use Rattle.cept_run.specs.declared.words.Way.TheVariants as ways
-use Rattle.cept_run.specs.Events.{history, item_text, item_event, item_events, refused_count}
-use Rattle.cept_run.specs.inside.Reporting.{listed_text, named_text, text_of_said}
+use Rattle.cept_run.specs.Events.{history, item_event, item_events, refused_count}
 use Rattle.cept_run.specs.Words.{is_painted}
-
--- ---- the text of an item, by what it says
-
-command_by : (way : Way) (named : Bool) (item : Item) (command : Command) (xs : List (Place × Look))
-    → item_text way named item (said.Command command) xs ≡ listed_text way item xs
-command_by ways.Count true item command xs = refl
-command_by ways.Count false item command xs = refl
-command_by ways.List true item command xs = refl
-command_by ways.List false item command xs = refl
-command_by ways.Paint true item command xs = refl
-command_by ways.Paint false item command xs = refl
-command_by ways.PaintAndList true item command xs = refl
-command_by ways.PaintAndList false item command xs = refl
-
-refusal_by : (way : Way) (named : Bool) (item : Item) (reason : Reason) (xs : List (Place × Look))
-    → item_text way named item (said.Refused reason) xs ≡ cond named (named_text way item reason) []
-refusal_by ways.Count true item reason xs = refl
-refusal_by ways.Count false item reason xs = refl
-refusal_by ways.List true item reason xs = refl
-refusal_by ways.List false item reason xs = refl
-refusal_by ways.Paint true item reason xs = refl
-refusal_by ways.Paint false item reason xs = refl
-refusal_by ways.PaintAndList true item reason xs = refl
-refusal_by ways.PaintAndList false item reason xs = refl
-
-pub text_is : (options : ReportOptions) (item : Item) (what : Said) (xs : List (Place × Look))
-    → item_text options.way options.refusals item what xs ≡ text_of_said options item what xs
-text_is options item (said.Command command) xs = command_by options.way options.refusals item command xs
-text_is options item (said.Refused reason) xs = refusal_by options.way options.refusals item reason xs
 
 -- ---- items that come after others
 

@@ -22,7 +22,7 @@ use Rattle.cept_run.specs.declared.run.Status.TheVariants as statuses
 use Rattle.cept_run.specs.declared.words.ReportOptions.{ReportOptions}
 use Rattle.cept_run.specs.Course.{Course, Given, NoScript, sequel_in, report_course, plain_course}
 use Rattle.cept_run.specs.Events.{history, item_events, refused_count, Sequel, NoSequel, remaining_after}
-use Rattle.cept_run.specs.inside.Reporting.{text_at_end}
+use Rattle.cept_run.specs.Events.{end_text}
 use Rattle.cept_run.specs.Outside.{Outside, output, PutsWhole, PutsUnflushed, PutsFront}
 use Rattle.cept_run.specs.Page.{PutsEnd}
 use Rattle.cept_run.specs.Reporting.{Plan, sequel_of, edited_events, remaining_at_end}
@@ -216,7 +216,7 @@ module _ (plan : Plan) (page : List ℕ) (before after : Outside) (shelf : after
         (subst AreStill (sym edited_is) (still_idle options (closed_items page) idle))
 
     loaded_whole : (refused : Bool) → refused ≡ nat_lt 0 (refused_count (closed_items page))
-        → PutsWhole (text_at_end options after.glass.grid page (all options NoScript page [])) sink after.sink
+        → PutsWhole (end_text options after.glass.grid page (all options NoScript page [])) sink after.sink
         → EndsWhole loaded before after refused
     loaded_whole refused is puts = record {
       page = page;
@@ -233,7 +233,7 @@ module _ (plan : Plan) (page : List ℕ) (before after : Outside) (shelf : after
     }
 
     by_end : (result : Result Bool Stop)
-        → PutsEnd (text_at_end options after.glass.grid page (all options NoScript page [])) (nat_lt 0 (refused_count (closed_items page))) sink
+        → PutsEnd (end_text options after.glass.grid page (all options NoScript page [])) (nat_lt 0 (refused_count (closed_items page))) sink
         result after.sink → RunsCourse loaded before after (status_at_end result)
     by_end (Ok false) puts = runs_loaded statuses.Done (loaded_whole false puts.1 puts.0) (λ other. puts.0.stays ∙ stays)
         idle_run (inr (refl, puts.0.room ∙ made.put.room))
@@ -251,8 +251,8 @@ module _ (plan : Plan) (page : List ℕ) (before after : Outside) (shelf : after
         (omega (arith, puts.0.later, stays)))
 
     pub loads_read : (result : Result Bool Stop)
-        → PutsEnd (text_at_end options after.glass.grid page (remaining_at_end plan (closed_items page)))
+        → PutsEnd (end_text options after.glass.grid page (remaining_at_end plan (closed_items page)))
         (nat_lt 0 (refused_count (closed_items page))) sink result after.sink → RunsCourse loaded before after (status_at_end result)
     loads_read result puts = by_end result
-        (subst (λ (h : List Command). PutsEnd (text_at_end options after.glass.grid page h)
+        (subst (λ (h : List Command). PutsEnd (end_text options after.glass.grid page h)
         (nat_lt 0 (refused_count (closed_items page))) sink result after.sink) all_is puts)

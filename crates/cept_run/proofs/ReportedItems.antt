@@ -43,9 +43,10 @@ use Rattle.cept_run.specs.Reporting.{Plan, ReporterState, painted_target, target
 use Rattle.cept_run.specs.Reporting.{HasReported}
 use Rattle.cept_run.specs.inside.Reporting.{Applies}
 use Rattle.cept_run.specs.Reporting.{AppliesOn, IsAppliedAfter}
-use Rattle.cept_run.specs.Reporting.{ReportsOn, painted_count, counted_places}
-use Rattle.cept_run.specs.inside.Reporting.{IsListedAlone, command_event, is_quiet, listed_text, named_text, refusal_text, text_of_said}
-use Rattle.cept_run.proofs.EventsOfItems.{text_is, history-none, history-command, history-refused, history-idle, item_events-more}
+use Rattle.cept_run.specs.Reporting.{ReportsOn, counted_places}
+use Rattle.cept_run.specs.Events.{item_text, listed_text, named_text, painted_count, refusal_text}
+use Rattle.cept_run.specs.inside.Reporting.{IsListedAlone, command_event, is_quiet}
+use Rattle.cept_run.proofs.EventsOfItems.{history-none, history-command, history-refused, history-idle, item_events-more}
 use Rattle.cept_run.specs.declared.words.Way.{Way}
 use Rattle.cept_run.specs.declared.words.Way.TheVariants as ways
 use Rattle.cept_run.specs.Words.{is_counted, is_painted, lists_changes}
@@ -206,17 +207,15 @@ module _ {X E : Type 0} (old new : ReporterState) (i : Item) (command : Command)
       let h = history plan.options earlier in
       let whole = history plan.options (earlier ++ i ∷ []) in
       let event : item_event plan.options earlier i ≡ command_event plan.options i.at h command =
-      ap (λ (t : List ℕ). record { before = h; after = whole; text = t })
-      (text_is plan.options i i.what (changes_between (grid h) (grid whole)))
-      ∙ ap (λ (hs : List Command). record {
+      ap (λ (hs : List Command). record {
         before = h;
         after = hs;
-        text = text_of_said plan.options i i.what (changes_between (grid h) (grid hs));
+        text = item_text plan.options i i.what (changes_between (grid h) (grid hs));
       }) (history-command plan.options earlier i command p is)
       ∙ ap (λ (s : Said). record {
         before = h;
         after = h ++ command ∷ [];
-        text = text_of_said plan.options i s (changes_between (grid h) (grid (h ++ command ∷ [])));
+        text = item_text plan.options i s (changes_between (grid h) (grid (h ++ command ∷ [])));
       }) is
       ∙ ap (λ (t : List ℕ). record { before = h; after = h ++ command ∷ []; text = t })
       (painted_lines plan.options.way i (changes h command) p) in
@@ -259,8 +258,7 @@ module _ {X E : Type 0} (old : ReporterState) (i : Item) (command : Command) (si
       let text : listed_text old.options.way i [] ≡ (item_event plan.options earlier i).text =
       ap (λ (a : ReportOptions). listed_text a.way i []) stands.options_are
       ∙ unpainted_lines plan.options.way i (changes_between (grid before) (grid after)) p
-      ∙ ap (λ w. text_of_said plan.options i w (changes_between (grid before) (grid after))) (sym is)
-      ∙ sym (text_is plan.options i i.what (changes_between (grid before) (grid after))) in
+      ∙ ap (λ w. item_text plan.options i w (changes_between (grid before) (grid after))) (sym is) in
       record {
         puts = subst (λ (t : List ℕ). PutsText sink t result now) text puts;
         painted = ArePainted-still (item_event plan.options earlier i) glass
@@ -376,10 +374,8 @@ module _ {X E : Type 0} (old : ReporterState) (i : Item) (reason : Reason) (sink
   refusal_made plan earlier stands =
       let text : refusal_text old.options i reason ≡ (item_event plan.options earlier i).text =
       ap (λ (a : ReportOptions). refusal_text a i reason) stands.options_are
-      ∙ ap (λ w. text_of_said plan.options i w (changes_between (grid (history plan.options earlier))
-      (grid (history plan.options (earlier ++ i ∷ []))))) (sym is)
-      ∙ sym (text_is plan.options i i.what (changes_between (grid (history plan.options earlier))
-      (grid (history plan.options (earlier ++ i ∷ []))))) in
+      ∙ ap (λ w. item_text plan.options i w (changes_between (grid (history plan.options earlier))
+      (grid (history plan.options (earlier ++ i ∷ []))))) (sym is) in
       record {
         puts = subst (λ (t : List ℕ). PutsText sink t result now) text puts;
         painted = ArePainted-still (item_event plan.options earlier i) glass (history-refused plan.options earlier i reason is);

@@ -16,7 +16,7 @@ use Rattle.cept_profile.specs.Look.{grid}
 use Rattle.cept_profile.specs.State.{core}
 use Rattle.cept_writer.specs.CompactCommands.{page_text}
 use Rattle.cept_run.specs.declared.words.ReportOptions.{ReportOptions}
-use Rattle.cept_run.specs.Events.{Sequel, end_text, run_events, remaining_of}
+use Rattle.cept_run.specs.Events.{Sequel, end_text, painted_end, run_events, remaining_of}
 use Rattle.cept_run.specs.Outside.{Outside, output, PutsWhole, PutsUnflushed, PutsFront}
 use Rattle.cept_run.specs.Course.{Source, ScriptSource, sequel_in, puts_page, report_course}
 use Rattle.cept_run.specs.declared.words.End.{End}
@@ -25,9 +25,10 @@ use Rattle.cept_run.specs.Run.{Restores, ReportsWhole}
 use Rattle.cept_run.specs.declared.words.Way.{Way}
 use Rattle.cept_run.specs.declared.words.Way.TheVariants as ways
 use Rattle.cept_run.specs.Reporting.{edited_events}
-use Rattle.cept_run.specs.inside.Reporting.{text_at_end}
+use Rattle.cept_run.specs.Words.{is_painted}
 use Rattle.std.proofs.lemmas.Bool.{and_parts}
 use Rattle.cept_run.proofs.EditedLines.{edited_events-chained}
+use Rattle.cept_run.proofs.EndTexts.{painted_by}
 use Rattle.cept_run.proofs.FrontsPut.{either_front}
 use Rattle.cept_run.proofs.PaintedItems.{AreChained, chained-append, chained-one, chained_shown, each_shown}
 use Rattle.cept_run.proofs.Selections.{put_either}
@@ -78,10 +79,10 @@ puts_page_by options is =
 
 -- the text at the end is the page then
 written_text : (options : ReportOptions) (shown : List (List Look)) (page : List ℕ) (commands : List Command)
-    → PutsPage options → text_at_end options shown page commands ≡ page_text (core commands)
+    → PutsPage options → end_text options shown page commands ≡ page_text (core commands)
 written_text options shown page commands puts =
-    ap (λ (w : Way). end_text w options.end options shown page commands) puts.way
-    ∙ ap (λ (e : End). end_text ways.Paint e options shown page commands) puts.end
+    painted_by options shown page commands (ap is_painted puts.way)
+    ∙ ap (λ (e : End). painted_end e options shown page commands) puts.end
 
 -- ---- a page, and what a script or a drawing says is done after it
 
@@ -96,7 +97,7 @@ module _ (options : ReportOptions) (source : ScriptSource) (bytes script : List 
   edited = edited_events options (closed_items bytes) sequel
 
   abbrev pub the_end : List (List Look) → Event
-  the_end shown = still_event all (text_at_end options shown bytes all)
+  the_end shown = still_event all (end_text options shown bytes all)
 
   abbrev pub the_run : List (List Look) → List Event
   the_run shown = run_events options bytes sequel shown
@@ -114,7 +115,7 @@ module _ (options : ReportOptions) (source : ScriptSource) (bytes script : List 
     middle = output_of sink after.glass
 
     abbrev pub the_text : List ℕ
-    the_text = text_at_end options after.glass.grid bytes all
+    the_text = end_text options after.glass.grid bytes all
 
     abbrev last : Event
     last = the_end after.glass.grid

@@ -9,7 +9,7 @@ use Rattle.cept_profile.specs.Look.{grid}
 use Rattle.cept_run.specs.declared.words.ReportOptions.{ReportOptions}
 use Rattle.cept_run.specs.Events.{Sequel, remaining_of, run_events}
 use Rattle.cept_run.specs.Reporting.{edited_events}
-use Rattle.cept_run.specs.inside.Reporting.{text_at_end}
+use Rattle.cept_run.specs.Events.{end_text}
 use Rattle.cept_run.proofs.EditedLines.{edited_events-chained}
 use Rattle.cept_run.proofs.PaintedItems.{AreChained, chained-append, chained-one, each_shown}
 
@@ -17,7 +17,7 @@ module _ (options : ReportOptions) (page : List ℕ) (sequel : Sequel) (shown : 
   chained : AreChained [] (run_events options page sequel shown) (remaining_of options page sequel)
   chained =
       let all = remaining_of options page sequel in
-      let last = still_event all (text_at_end options shown page all) in
+      let last = still_event all (end_text options shown page all) in
       chained-append [] all all (edited_events options (closed_items page) sequel) (last ∷ [])
       (edited_events-chained options (closed_items page) sequel) (chained-one last)
 

@@ -17,11 +17,10 @@ use Rattle.cept_editor.proofs.Laws.{report-append, report-one, report-none}
 use Rattle.cept_run.specs.declared.words.ReportOptions.{ReportOptions}
 use Rattle.cept_run.specs.declared.words.Way.{Way}
 use Rattle.cept_run.specs.declared.words.Way.TheVariants as ways
-use Rattle.cept_run.specs.Events.{history, item_event, item_events}
+use Rattle.cept_run.specs.Events.{history, item_event, item_events, item_text, listed_text, named_text}
 use Rattle.cept_run.specs.Events.{kept_of, Sequel, NoSequel, Edits, Figures, drawing_commands, sequel_events}
 use Rattle.cept_run.specs.Reporting.{edited_events}
-use Rattle.cept_run.specs.inside.Reporting.{listed_text, named_text, text_of_said}
-use Rattle.cept_run.proofs.EventsOfItems.{text_is, events_after, item_events-after}
+use Rattle.cept_run.proofs.EventsOfItems.{events_after, item_events-after}
 use Rattle.cept_run.proofs.EditedLines.{nothing_event, events_of_line, lines_after, script_events-after}
 
 -- one event more, of no text
@@ -34,7 +33,7 @@ silent_more xs ys first second = report-append xs ys ∙ ap (λ t. t ++ report y
 
 -- neither changes nor refusals are listed
 silent_said : (options : ReportOptions) (item : Item) (what : Said) (xs : List (Place × Look)) → options.way ≡ ways.Paint
-    → options.refusals ≡ false → text_of_said options item what xs ≡ []
+    → options.refusals ≡ false → item_text options item what xs ≡ []
 silent_said options item (said.Command command) xs c r = ap (λ (w : Way). listed_text w item xs) c
 silent_said options item (said.Refused reason) xs c r = ap (λ b. cond b (named_text options.way item reason) []) r
 
@@ -44,7 +43,7 @@ unfolding events_after
 silent_items_after options earlier [] c r = report-none
 silent_items_after options earlier (i ∷ is) c r =
     silent_one (item_event options earlier i) (events_after options (earlier ++ i ∷ []) is)
-    (text_is options i i.what _ ∙ silent_said options i i.what _ c r) (silent_items_after options (earlier ++ i ∷ []) is c r)
+    (silent_said options i i.what _ c r) (silent_items_after options (earlier ++ i ∷ []) is c r)
 
 -- and no edits
 silent_edit : (line n : ℕ) (earlier whole rest : List Command)

@@ -12,10 +12,8 @@ use Rattle.cept_outside.specs.ShelfState.{ShelfState, Holds, Lacks}
 use Rattle.cept_parser.specs.Items.{items}
 use Rattle.cept_plot.specs.Drawings.{figures_of, first_fault as first_fault_of_drawing}
 use Rattle.cept_run.specs.declared.words.ReportOptions.{ReportOptions}
-use Rattle.cept_run.specs.declared.words.BytesAction.{BytesAction}
 use Rattle.cept_run.specs.declared.words.End.{End}
 use Rattle.cept_run.specs.declared.words.End.TheVariants as ends
-use Rattle.cept_run.specs.declared.words.NumberAction.{NumberAction}
 use Rattle.cept_run.specs.declared.words.NumberAction.TheVariants as numbers
 use Rattle.cept_run.specs.declared.words.Way.{Way}
 use Rattle.cept_run.specs.declared.words.Way.TheVariants as ways

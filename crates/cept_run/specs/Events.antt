@@ -5,6 +5,7 @@ use Rattle.std.specs.Prelude.{if◌then◌else◌}
 use Rattle.std.specs.List.{enumerate_from, flat_map}
 use Rattle.cept_codes.specs.declared.command.Command.{Command}
 use Rattle.cept_codes.specs.declared.item.Item.{Item}
+use Rattle.cept_codes.specs.declared.item.Reason.{Reason}
 use Rattle.cept_codes.specs.declared.item.Said.{Said}
 use Rattle.cept_codes.specs.declared.item.Said.TheVariants as said
 use Rattle.cept_codes.specs.declared.look.Look.{Look}
@@ -40,14 +41,26 @@ use Rattle.cept_run.specs.Words.{is_painted}
 abbrev pub history : ReportOptions → List Item → List Command
 history options items = if is_painted options.way then commands_of items else []
 
--- what is put of an item that changes these places: where items are listed its own line, where changes are a line for each
--- place, and of a refused one a line, where these are named
-abbrev pub item_text : Way → Bool → Item → Said → List (Place × Look) → List ℕ
-item_text way false item (said.Refused reason) changes = []
-item_text ways.List named item what changes = item_line item
-item_text ways.PaintAndList named item (said.Command command) changes = change_lines item.at changes
-item_text way named item (said.Command command) changes = []
-item_text way named item (said.Refused reason) changes = refusal_line item.at item.len reason
+-- what is put of an item whose command changes these places: where items are listed its own line, where changes are a line
+-- for each place
+abbrev pub listed_text : Way → Item → List (Place × Look) → List ℕ
+listed_text ways.List item changes = item_line item
+listed_text ways.PaintAndList item changes = change_lines item.at changes
+listed_text _ item changes = []
+
+-- how a refused item is named: where items are listed by its own line, else by a line for a refusal
+abbrev pub named_text : Way → Item → Reason → List ℕ
+named_text ways.List item reason = item_line item
+named_text _ item reason = refusal_line item.at item.len reason
+
+-- what is put of a refused item: its name, where that is asked for
+abbrev pub refusal_text : ReportOptions → Item → Reason → List ℕ
+refusal_text options item reason = if options.refusals then named_text options.way item reason else []
+
+-- what is put of an item that changes these places
+abbrev pub item_text : ReportOptions → Item → Said → List (Place × Look) → List ℕ
+item_text options item (said.Command command) changes = listed_text options.way item changes
+item_text options item (said.Refused reason) changes = refusal_text options item reason
 
 -- an item that comes after these
 abbrev pub item_event : ReportOptions → List Item → Item → Event
@@ -55,7 +68,7 @@ item_event options earlier item =
     let before = history options earlier in
     let after = history options (earlier ++ item ∷ []) in
     let changes = changes_between (grid before) (grid after) in
-    record { before = before; after = after; text = item_text options.way options.refusals item item.what changes }
+    record { before = before; after = after; text = item_text options item item.what changes }
 
 -- each of these items, after those before it
 unfoldable pub item_events : ReportOptions → List Item → List Event
@@ -68,19 +81,30 @@ item_events options items =
 abbrev pub refused_count : List Item → ℕ
 refused_count items = count_by (λ i. is_refusal i.what) items
 
--- what is put at the end of a page, where these commands remain and the glass shows this grid; of a page that wasn't painted
--- how many items it has, and how many refused, where these are counted
-abbrev pub end_text : Way → End → ReportOptions → List (List Look) → List ℕ → List Command → List ℕ
-end_text ways.Count end options shown page commands =
-    check_line (length (closed_items page)) (refused_count (closed_items page))
-end_text ways.List end options shown page commands = []
-end_text way ends.Nothing options shown page commands = []
-end_text way ends.Screen options shown page commands = screen_text shown (control commands).rows
-end_text way ends.Cells options shown page commands = cells_text shown (control commands).rows
-end_text way ends.Page options shown page commands = page_text (core commands)
-end_text way ends.Counts options shown page commands =
-    load_line (length page) (length (closed_items page)) (length (paints (item_events options (closed_items page))))
-end_text way (ends.Phases turns) options shown page commands = phase_lines (grid commands) turns
+-- how many places are painted at these items
+abbrev pub painted_count : ReportOptions → List Item → ℕ
+painted_count options items = length (paints (item_events options items))
+
+-- what is put at the end of a page that is painted, where these commands remain and the glass shows this grid
+abbrev pub painted_end : End → ReportOptions → List (List Look) → List ℕ → List Command → List ℕ
+painted_end ends.Nothing options shown page commands = []
+painted_end ends.Screen options shown page commands = screen_text shown (control commands).rows
+painted_end ends.Cells options shown page commands = cells_text shown (control commands).rows
+painted_end ends.Page options shown page commands = page_text (core commands)
+painted_end ends.Counts options shown page commands =
+    load_line (length page) (length (closed_items page)) (painted_count options (closed_items page))
+painted_end (ends.Phases turns) options shown page commands = phase_lines (grid commands) turns
+
+-- and of one that isn't, with so many items, and so many of them refused: their numbers, where these are counted
+abbrev pub counts_text : Way → ℕ → ℕ → List ℕ
+counts_text ways.Count items refused = check_line items refused
+counts_text _ items refused = []
+
+-- what is put at the end of a page
+abbrev pub end_text : ReportOptions → List (List Look) → List ℕ → List Command → List ℕ
+end_text options shown page commands =
+    if is_painted options.way then painted_end options.end options shown page commands
+    else counts_text options.way (length (closed_items page)) (refused_count (closed_items page))
 
 -- ---- edit lines
 
@@ -131,4 +155,4 @@ run_events options page sequel shown =
     let all = closed_items page in
     let left = remaining_of options page sequel in
     (item_events options all ++ sequel_events options.edits_listed (history options all) sequel)
-    ++ still_event left (end_text options.way options.end options shown page left) ∷ []
+    ++ still_event left (end_text options shown page left) ∷ []

@@ -12,7 +12,7 @@ use Rattle.cept_profile.specs.Look.{grid}
 use Rattle.cept_profile.specs.State.{State, state}
 use Rattle.cept_profile.specs.Valid.{AllValid}
 use Rattle.cept_repaint.specs.GlassState.{GlassState, Lists}
-use Rattle.cept_editor.specs.Events.{Event, paints}
+use Rattle.cept_editor.specs.Events.{Event}
 use Rattle.cept_editor.specs.Kept.{none_kept, EditorState, StandsAfter}
 use Rattle.cept_editor.specs.Made.{Output, ArePainted, AreMade, AreCutOff}
 use Rattle.cept_editor.specs.Script.{EditLine}
@@ -23,7 +23,7 @@ use Rattle.cept_run.specs.declared.words.ReportOptions.{ReportOptions}
 use Rattle.cept_run.specs.declared.words.End.{End}
 use Rattle.cept_run.specs.declared.words.End.TheVariants as ends
 use Rattle.cept_run.specs.Words.{is_counted, is_painted}
-use Rattle.cept_run.specs.Events.{history, item_events, refused_count, kept_of, script_events}
+use Rattle.cept_run.specs.Events.{history, item_events, painted_count, refused_count, kept_of, script_events}
 use Rattle.cept_run.specs.Events.{Sequel, NoSequel, Edits, Figures, drawing_commands, sequel_events}
 use Rattle.cept_run.specs.Events.{remaining_after}
 
@@ -80,10 +80,6 @@ sequel_at _ = NoSequel
 -- the plan by which it reports
 abbrev pub plan_in : ReporterState → Plan
 plan_in reporter = record { options = reporter.options; sequel = sequel_at reporter.target }
-
--- how many places are painted at these items
-abbrev pub painted_count : ReportOptions → List Item → ℕ
-painted_count options items = length (paints (item_events options items))
 
 -- what is counted of so many painted places
 abbrev pub counted_places : ReportOptions → ℕ → ℕ

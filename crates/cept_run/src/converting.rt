@@ -1,11 +1,10 @@
 //! Takes a page from the shelf and puts it in another form, piece by piece: its bytes are never all
 //! in memory.
 
-ghost use Rattle.std.specs.Prelude.{◌≡◌, ◌≤◌, ◌^◌, List, ℕ, [], ◌++◌, true, false, not, length};
-ghost use Rattle.arrayvec.specs.ArrayVec.{array_vec_len};
+ghost use Rattle.std.specs.Prelude.{◌≡◌, ◌≤◌, List, ℕ, [], ◌++◌, true, false, not, length};
 ghost use Rattle.cept_outside.specs.SinkState.{SinkState};
 ghost use Rattle.cept_repaint.specs.GlassState.{GlassState};
-ghost use Rattle.cept_seven.specs.Seven.{ends_right, unclosed};
+ghost use Rattle.cept_seven.specs.Seven.{ends_right};
 ghost use Rattle.cept_seven.specs.Eight.{Leads};
 ghost use Rattle.cept_run.specs.Course.{course_of};
 ghost use Rattle.cept_run.specs.Outside.{outside_of};

@@ -4,7 +4,7 @@ ghost use Rattle.std.specs.Prelude.{◌≡◌, ℕ, ◌+◌, ◌*◌, ◌^◌, �
 ghost use Rattle.std.specs.Prelude.{false, length, if◌then◌else◌, nat_lt};
 ghost use Rattle.cept_parser.specs.Items.{closed_items};
 ghost use Rattle.cept_outside.specs.SinkState.{PutsText};
-ghost use Rattle.cept_run.specs.inside.Reporting.{text_at_end};
+ghost use Rattle.cept_run.specs.Events.{end_text};
 ghost use Rattle.cept_editor.specs.Made.{Output, output_of};
 
 use crate::reporter::Reporter;
@@ -141,7 +141,7 @@ impl Decoder {
         ensures { (plan : Plan) (page : List ℕ)
             → StandsAtEnd plan self.now.reporter (closed_items page)
             → HasBlink plan.options.end blink.old → bytes ≡ length page
-            → PutsText (T.state sink.old) (text_at_end plan.options (G.state glass.now).grid page
+            → PutsText (T.state sink.old) (end_text plan.options (G.state glass.now).grid page
             (remaining_at_end plan (closed_items page))) result (T.state sink.new) }
     {
         self.reporter.put_end(bytes, blink, sink, glass)

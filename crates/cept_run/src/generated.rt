@@ -1,7 +1,7 @@
 //! Puts a generated page, or has it read. It is taken piece by piece: its bytes are never all in
 //! memory.
 
-ghost use Rattle.std.specs.Prelude.{◌≡◌, [], List, ℕ, false};
+ghost use Rattle.std.specs.Prelude.{[], false};
 ghost use Rattle.cept_editor.specs.Made.{Output, output_of};
 ghost use Rattle.cept_generator.specs.Generated.{generated};
 ghost use Rattle.cept_outside.specs.SinkState.{PutsText};

@@ -1,6 +1,6 @@
 //! Takes a page from the shelf and has it read, to its end or as far as it goes.
 
-ghost use Rattle.std.specs.Prelude.{◌≡◌, ◌+◌, ◌-◌, ◌^◌, ◌<◌, ◌≤◌, [], false};
+ghost use Rattle.std.specs.Prelude.{◌≡◌, ◌+◌, ◌-◌, ◌<◌, [], false};
 ghost use Rattle.cept_editor.specs.Made.{Output};
 ghost use Rattle.cept_run.specs.Outside.{outside_of};
 ghost use Rattle.cept_run.specs.Page.{PageEnds, KeepsShelf};

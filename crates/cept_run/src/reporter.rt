@@ -10,7 +10,7 @@ ghost use Rattle.cept_outside.specs.SinkState.{PutsText};
 ghost use Rattle.cept_listing.specs.Listing.{item_line};
 ghost use Rattle.cept_report.specs.Text.{refusal_line};
 ghost use Rattle.cept_profile.specs.State.{state};
-ghost use Rattle.cept_run.specs.inside.Reporting.{counts_text, painted_end, text_at_end};
+ghost use Rattle.cept_run.specs.Events.{counts_text, end_text, painted_end};
 ghost use Rattle.cept_editor.specs.Made.{output_of};
 
 use crate::edits::{draw, make_lines};
@@ -82,7 +82,8 @@ impl Reporter {
     ghost use Rattle.cept_run.specs.Reporting.{Plan, StandsAtEnd, ReportsOn, EditsOn};
     ghost use Rattle.cept_run.specs.inside.Reporting.{Applies};
     ghost use Rattle.cept_run.specs.Reporting.{remaining_at_end, HasBlink};
-    ghost use Rattle.cept_run.specs.inside.Reporting.{is_quiet, refusal_text};
+    ghost use Rattle.cept_run.specs.Events.{refusal_text};
+    ghost use Rattle.cept_run.specs.inside.Reporting.{is_quiet};
     ghost use Rattle.std.specs.Prelude.{true, false};
     ghost use Rattle.cept_repaint.specs.GlassState.{GlassState};
 
@@ -346,7 +347,7 @@ impl Reporter {
         ensures { (plan : Plan) (page : List ℕ)
             → StandsAtEnd plan self.now (closed_items page)
             → HasBlink plan.options.end blink.old → bytes ≡ length page
-            → PutsText (T.state sink.old) (text_at_end plan.options (G.state glass.now).grid page
+            → PutsText (T.state sink.old) (end_text plan.options (G.state glass.now).grid page
             (remaining_at_end plan (closed_items page))) result (T.state sink.new) }
     {
         match self.target.screen() {

@@ -9,8 +9,7 @@ ghost use Rattle.cept_outside.specs.ShelfState.{ShelfState};
 ghost use Rattle.cept_parser.specs.Items.{closed_items};
 ghost use Rattle.cept_run.specs.Course.{File, Given, ScriptSource, NoScript, report_course};
 ghost use Rattle.cept_run.specs.Course.{course_of, sequel_in};
-ghost use Rattle.cept_run.specs.Events.{refused_count, NoSequel};
-ghost use Rattle.cept_run.specs.inside.Reporting.{text_at_end};
+ghost use Rattle.cept_run.specs.Events.{end_text, refused_count, NoSequel};
 ghost use Rattle.cept_run.specs.Outside.{outside_of};
 ghost use Rattle.cept_run.specs.Page.{PutsEnd};
 ghost use Rattle.cept_run.specs.Reporting.{Plan, StandsAtEnd, HasRead, plan_in, sequel_of};
@@ -141,7 +140,7 @@ fn end_report<T: Sink, G: Glass>(
         → StandsAtEnd plan decoder.now.reporter (closed_items page)
         → HasBlink plan.options.end blink.old
         → bytes ≡ length page
-        → PutsEnd (text_at_end plan.options (G.state glass.now).grid page
+        → PutsEnd (end_text plan.options (G.state glass.now).grid page
         (remaining_at_end plan (closed_items page)))
         (nat_lt 0 (refused_count (closed_items page))) (T.state sink.old) result (T.state sink.new) }
 {

@@ -1,7 +1,7 @@
 -- What stands in the slice after a run, and what its status says.
 use Rattle.std.proofs.Common.{◌≡◌, ◌⊎◌, inl, inr, ℕ, ◌<◌, Bool, true, false, ◌&&◌, List, ◌++◌, Some, codes, cond}
 use Rattle.std.proofs.Common.{sym, ap, subst, ◌∙◌, ◌≤◌, arith, length, nat_lt, is_some, IsSome}
-use Rattle.std.proofs.Common.{take, drop, take-append-drop, length-append, length-take}
+use Rattle.std.proofs.Common.{take, drop, take-append-drop, length-take}
 use Rattle.std.proofs.lemmas.Option.{same_Some}
 use Rattle.std.specs.Io.KnownBytes.{append_known}
 use Rattle.cept_editor.specs.Events.{report}

@@ -34,13 +34,13 @@ asked = options_of_page pages.Changes
 abbrev last : List ℕ → List (List Look) → Event
 last page shown =
     let left = remaining_of asked page NoSequel in
-    still_event left (end_text asked.way asked.end asked shown page left)
+    still_event left (end_text asked shown page left)
 
 -- ---- of items
 
 -- the text of an item's event
 text_told : (earlier : List Item) (item : Item) (s : Said) → item.what ≡ s
-    → item_text asked.way asked.refusals item s (changes_between (grid (history asked earlier)) (grid (history asked (earlier ++ item ∷ []))))
+    → item_text asked item s (changes_between (grid (history asked earlier)) (grid (history asked (earlier ++ item ∷ []))))
     ≡ said_lines item (commands_of earlier) s
 text_told earlier item (said.Command command) is =
     ap (λ (h : List Command). change_lines item.at (changes_between (grid (commands_of earlier)) (grid h)))

@@ -1,5 +1,5 @@
 -- Worked tables of what calls on a decoder answer, by computing.
-use Rattle.std.proofs.Common.{◌≡◌, ℕ, List, [], ◌∷◌, map, refl, arith, true≢false}
+use Rattle.std.proofs.Common.{◌≡◌, ℕ, List, [], ◌∷◌, map, refl, arith}
 use Rattle.cept_codes.specs.declared.line_reason.LineReason.TheVariants as reasons
 use Rattle.cept_live.specs.declared.lines.Lined.{Lined}
 use Rattle.cept_live.specs.declared.lines.Lined.TheVariants as answers

@@ -46,7 +46,6 @@ pub fn what_lines_make_is_the_edit()
     ensures page { (page script : List ℕ) (old mid new : LiveState) (list now : List Notice)
         (from to : ℕ) (shown : List (List Look)) → HasFed old page → Ends old list from mid to now
         → AreStepsOf (map (λ line. line.step) (edits script)) mid new → page_of new
-        ≡ end_text (options_of_script scripts.Edit).way (options_of_script scripts.Edit).end
-        (options_of_script scripts.Edit) shown page
+        ≡ end_text (options_of_script scripts.Edit) shown page
         (remaining_of (options_of_script scripts.Edit) page (Edits (edits script))) }
 {}

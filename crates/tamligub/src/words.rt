@@ -1,5 +1,5 @@
 //! The words of a call, and what they ask for. It takes no memory.
-ghost use Rattle.std.specs.Prelude.{◌≡◌, ◌∷◌, ℕ, Some, IfSome, decimal};
+ghost use Rattle.std.specs.Prelude.{◌≡◌, ◌∷◌, ℕ, IfSome, decimal};
 ghost use Rattle.std.specs.Option.{option_map};
 ghost use Rattle.cept_run.specs.Words.{HasTwoNames, request_by, request_of};
 ghost use Rattle.tamligub.specs.Words.{words_for, words_after};

@@ -9,7 +9,8 @@ use Rattle.cept_run.specs.declared.words.ReportOptions.{ReportOptions}
 use Rattle.cept_run.specs.declared.words.End.TheVariants as ends
 use Rattle.cept_run.specs.declared.words.End.{End}
 use Rattle.cept_run.specs.Words.{is_counted}
-use Rattle.cept_run.specs.Reporting.{ReporterState, painted_count}
+use Rattle.cept_run.specs.Events.{painted_count}
+use Rattle.cept_run.specs.Reporting.{ReporterState}
 use Rattle.cept_run.proofs.EndTexts.{end_as}
 use Rattle.cept_run.proofs.ReportedItems.{PutsText-nothing}
 use Rattle.cept_run.proofs.reporter.Reporter.put_painted.Goals as goal
