@@ -1,5 +1,5 @@
-ghost use Rattle.std.specs.Prelude.{◌≡◌, ◌≤◌, ◌<◌, ◌-◌, ◌==◌, ◌&&◌, ℕ, Bool, true, false, nat_le, if◌then◌else◌};
-ghost use Rattle.std.specs.Prelude.{IfOk, IfSome, List, Option, None, [], is_some, length, slice_index_or, unwrap_or};
+ghost use Rattle.std.specs.Prelude.{◌≡◌, ◌≤◌, ◌<◌, ◌-◌, ◌==◌, ◌&&◌, ℕ, true, false, nat_le};
+ghost use Rattle.std.specs.Prelude.{IfOk, Option, None, [], is_some, length, slice_index_or, unwrap_or};
 ghost use Rattle.std.specs.List.{list_any};
 ghost use Rattle.cept_codes.specs.declared.cell.Cell.{Cell};
 ghost use Rattle.cept_codes.specs.Attribute.{IsEntry};

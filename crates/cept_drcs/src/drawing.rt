@@ -1,5 +1,5 @@
 ghost use Rattle.std.specs.Prelude.{◌≡◌, ◌≤◌, ◌<◌, ◌+◌, ◌*◌, ◌-◌, ◌^◌, length, replicate};
-ghost use Rattle.std.specs.Prelude.{true, false, if◌then◌else◌, ◌&&◌, nat_lt, None};
+ghost use Rattle.std.specs.Prelude.{true, false, ◌&&◌, nat_lt, None};
 ghost use Rattle.cept_codes.specs.Command.{IsValidForm};
 ghost use Rattle.cept_drcs.specs.Kept.{plane_end, IsFed, IsPlaneOf};
 ghost use Rattle.cept_drcs.specs.inside.Kept.{HasRoomFor};

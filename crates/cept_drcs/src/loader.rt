@@ -27,7 +27,7 @@ impl Model for Loader {
 }
 
 impl Loader {
-    ghost use Rattle.cept_drcs.specs.Loading.{Loading, fresh, takes, loading_after, is_full, Leads};
+    ghost use Rattle.cept_drcs.specs.Loading.{Loading, fresh, takes, loading_after, Leads};
     ghost use Rattle.cept_drcs.specs.Unit.{is_pattern, pattern_grows, pattern};
 
     /// A pattern before its first byte.

@@ -1,13 +1,11 @@
 -- Edit lines by the states of an editor alone: where it stands after them, and what they change.
-use Rattle.std.proofs.Common.{◌≡◌, ℕ, ◌<◌, Bool, true, false, cond, List, [], ◌∷◌, ◌++◌, length, refl, sym, ap, subst, ◌∙◌}
+use Rattle.std.proofs.Common.{◌≡◌, ℕ, Bool, true, false, cond, List, [], ◌∷◌, ◌++◌, refl, sym, ap, subst, ◌∙◌}
 use Rattle.std.specs.List.{AllByRecursion}
 use Rattle.cept_codes.specs.Command.{IsValidCommand}
 use Rattle.cept_codes.specs.declared.command.Command.{Command}
-use Rattle.cept_codes.specs.declared.look.Look.{Look}
-use Rattle.cept_codes.specs.Place.{Place}
 use Rattle.cept_profile.specs.Changes.{changes_between}
 use Rattle.cept_profile.specs.Look.{looks_of}
-use Rattle.cept_profile.specs.State.{State, state, state_after, core_of}
+use Rattle.cept_profile.specs.State.{State, state, core_of}
 use Rattle.cept_profile.specs.Valid.{AllValid}
 use Rattle.cept_profile.proofs.Laws.{state-one_more}
 use Rattle.cept_repaint.specs.InTurn.{state_after_all}

@@ -1,5 +1,5 @@
 -- What is left of the commands of hexadecimal digits (this project's own).
-use Rattle.std.specs.Prelude.{ℕ, ◌≡◌, ◌+◌, ◌-◌, ◌<◌, ◌≤◌, ◌^◌, false, List, [], ◌++◌, length, drop}
+use Rattle.std.specs.Prelude.{ℕ, ◌≡◌, ◌+◌, ◌<◌, ◌≤◌, ◌^◌, false, List, [], ◌++◌, length, drop}
 use Rattle.std.specs.Prelude.{Option, Some, None, IsSome, map, if◌then◌else◌}
 use Rattle.std.specs.Option.{option_to_list}
 use Rattle.cept_codes.specs.declared.command.Command.{Command}

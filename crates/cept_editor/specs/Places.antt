@@ -1,5 +1,5 @@
 -- Where the bytes of orders stand in a script, and its edits by their orders (this project's own).
-use Rattle.std.specs.Prelude.{ℕ, ◌≤◌, ◌-◌, ◌^◌, List, length, slice_range}
+use Rattle.std.specs.Prelude.{ℕ, ◌≤◌, ◌^◌, List, length, slice_range}
 use Rattle.std.specs.List.{AllByRecursion}
 use Rattle.cept_editor.specs.declared.order.Order.{Order}
 use Rattle.cept_editor.specs.declared.order.Order.TheVariants as orders

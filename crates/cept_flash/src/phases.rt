@@ -1,5 +1,5 @@
-ghost use Rattle.std.specs.Prelude.{◌≡◌, ◌<◌, ◌==◌, ◌||◌, not};
-ghost use Rattle.cept_codes.specs.Look.{IsValidLook, IsValidPaint};
+ghost use Rattle.std.specs.Prelude.{◌≡◌, ◌<◌, ◌==◌, ◌||◌};
+ghost use Rattle.cept_codes.specs.Look.{IsValidLook};
 ghost use Rattle.cept_flash.specs.SeenFlashing.{flashes_seen, has_light};
 ghost use Rattle.cept_flash.specs.inside.SeenFlashing.{differ, turns};
 ghost use Rattle.cept_flash.specs.Phases.{halved, is_dimmed, is_on, look_at_phase, next_phase};

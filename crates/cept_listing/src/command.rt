@@ -1,6 +1,6 @@
 //! The text of a command.
 
-ghost use Rattle.std.specs.Prelude.{◌≡◌, ◌+◌, ◌≤◌, ◌∷◌, [], ◌++◌, length};
+ghost use Rattle.std.specs.Prelude.{◌+◌, ◌∷◌, []};
 ghost use Rattle.cept_codes.specs.Command.{IsValidCommand, IsValidForm};
 ghost use Rattle.cept_codes.specs.Look.{IsValidPattern};
 ghost use Rattle.std.specs.Prelude.{codes, if◌then◌else◌};

@@ -1,6 +1,6 @@
 //! The line of an item.
 
-ghost use Rattle.std.specs.Prelude.{◌≡◌, ◌+◌, ◌≤◌, ◌++◌, ◌∷◌, []};
+ghost use Rattle.std.specs.Prelude.{◌≡◌};
 ghost use Rattle.cept_codes.specs.Command.{IsValidItem, IsValidSaid};
 ghost use Rattle.cept_listing.specs.Listing.{item_line, said_text};
 ghost use Rattle.cept_outside.specs.SinkState.{PutsText};

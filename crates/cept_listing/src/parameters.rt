@@ -1,8 +1,7 @@
 //! Names with their parameters, each added to a line.
 
-ghost use Rattle.std.specs.Prelude.{◌≡◌, ◌+◌, ◌≤◌, ◌<◌, ◌∷◌, [], ◌++◌, length, decimal, codes};
+ghost use Rattle.std.specs.Prelude.{◌+◌, ◌≤◌, ◌<◌, ◌∷◌, [], ◌++◌, length, decimal, codes};
 ghost use Rattle.std.specs.Prelude.{if◌then◌else◌};
-ghost use Rattle.arrayvec.specs.ArrayVec.{array_vec_len};
 ghost use Rattle.cept_codes.specs.Look.{IsValidRgb};
 ghost use Rattle.cept_codes.specs.declared.look.Paint.TheVariants as paints;
 ghost use Rattle.cept_report.specs.Room.{Adds, HasRoomFor};

@@ -1,6 +1,5 @@
 -- Worked cases: bounds of what a decoder takes.
 use Rattle.std.proofs.Common.{◌≡◌, ℕ, List, length, true, false, arith, sym, true≢false, ◌∙◌, inl, inr}
-use Rattle.std.specs.Prelude.{◌⊎◌}
 use Rattle.cept_live.specs.declared.lines.Lined.{Lined}
 use Rattle.cept_live.specs.declared.lines.Lined.TheVariants as answers
 use Rattle.cept_live.specs.declared.notice.Notice.{Notice}

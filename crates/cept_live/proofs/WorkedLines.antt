@@ -1,5 +1,5 @@
 -- Worked cases: lines that stand for nothing, and bytes that wait.
-use Rattle.std.proofs.Common.{◌≡◌, ℕ, List, [], ◌∷◌, false, arith, refl}
+use Rattle.std.proofs.Common.{◌≡◌, List, [], ◌∷◌, false, arith, refl}
 use Rattle.cept_editor.specs.Meaning.{line_meaning}
 use Rattle.cept_profile.specs.State.{state}
 use Rattle.cept_live.specs.declared.lines.Lined.{Lined}

@@ -1,5 +1,5 @@
 //! Tells what a phase of flashing changes on a display that is kept as it is told.
-ghost use Rattle.std.specs.Prelude.{◌≡◌, ℕ, ◌+◌, ◌≤◌, length, not, is_some, IfSome};
+ghost use Rattle.std.specs.Prelude.{◌≡◌, ◌+◌, ◌≤◌, length, not, is_some, IfSome};
 ghost use Rattle.cept_codes.specs.Look.{IsValidLook};
 ghost use Rattle.cept_codes.specs.Place.{number};
 ghost use Rattle.cept_codes.specs.Same.{same_look};

@@ -1,5 +1,5 @@
 //! Laws of what is told. The functions do nothing: their contracts are the laws.
-ghost use Rattle.std.specs.Prelude.{◌≡◌, ℕ, Some, None, List, [], ◌++◌, false, length, take};
+ghost use Rattle.std.specs.Prelude.{◌≡◌, ℕ, Some, None, List, ◌++◌, false, length, take};
 ghost use Rattle.cept_codes.specs.declared.command.Command.{Command};
 ghost use Rattle.cept_codes.specs.declared.item.Item.{Item};
 ghost use Rattle.cept_codes.specs.declared.item.Reason.{Reason};

@@ -1,5 +1,5 @@
 //! A decoder that keeps its place between pieces of a page.
-ghost use Rattle.std.specs.Prelude.{◌≡◌, ℕ, ◌+◌, ◌^◌, ◌<◌, ◌≤◌, ◌⊎◌, ◌∷◌, [], length, take};
+ghost use Rattle.std.specs.Prelude.{◌≡◌, ℕ, ◌+◌, ◌^◌, ◌<◌, ◌≤◌, ◌⊎◌, ◌∷◌, [], length};
 ghost use Rattle.std.specs.Prelude.{◌↔◌, true, false, List, IfOk, IfSome, IsNone, Some};
 ghost use Rattle.std.specs.List.{AllByRecursion};
 ghost use Rattle.cept_codes.specs.Command.{IsValidCommand};

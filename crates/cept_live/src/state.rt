@@ -1,5 +1,5 @@
 //! Where a decoder stands, as a record whose fields are numbers alone.
-ghost use Rattle.std.specs.Prelude.{◌≡◌, ◌<◌, ◌^◌, length};
+ghost use Rattle.std.specs.Prelude.{◌≡◌};
 ghost use Rattle.cept_live.specs.States.{control_record, pen_record};
 
 use cept_codes::Pen;

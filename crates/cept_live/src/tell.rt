@@ -1,5 +1,5 @@
 //! Applies the commands of items to a screen, and tells what each item says.
-ghost use Rattle.std.specs.Prelude.{◌≡◌, ℕ, ◌+◌, ◌*◌, ◌<◌, ◌≤◌, ◌∷◌, [], length};
+ghost use Rattle.std.specs.Prelude.{◌≡◌, ◌+◌, ◌*◌, ◌<◌, ◌≤◌, ◌∷◌, [], length};
 ghost use Rattle.std.specs.List.{AllByRecursion};
 ghost use Rattle.cept_codes.specs.Command.{IsValidSaid};
 ghost use Rattle.cept_profile.specs.Changes.{marked_looks};
@@ -7,7 +7,7 @@ ghost use Rattle.cept_profile.specs.Look.{looks_of};
 ghost use Rattle.cept_profile.specs.State.{core_of};
 ghost use Rattle.cept_live.specs.Live.{Tells};
 ghost use Rattle.cept_live.specs.inside.Live.{TakesItems};
-ghost use Rattle.cept_live.specs.Notices.{Saying, Refusal, change_sayings};
+ghost use Rattle.cept_live.specs.Notices.{Refusal, change_sayings};
 ghost use Rattle.cept_live.specs.Renewed.{marked_with};
 
 use crate::notice::Notice;

@@ -1,6 +1,4 @@
-ghost use Rattle.std.specs.Prelude.{◌≡◌, ◌≤◌, ◌<◌, ℕ, false, length};
-ghost use Rattle.cept_codes.specs.Cell.{blank_cell};
-ghost use Rattle.cept_codes.specs.Table.{entry};
+ghost use Rattle.std.specs.Prelude.{◌≡◌, false, length};
 ghost use Rattle.cept_profile.specs.Look.{is_double_set, sets_double_size};
 ghost use Rattle.cept_profile.specs.Serial.{is_marker};
 ghost use Rattle.cept_profile.specs.OldValues.{OldValues, page_unwound};

@@ -1,6 +1,6 @@
 //! Laws of pages: functions that do nothing, and whose clauses say what strokes draw and what is noted of
 //! them.
-ghost use Rattle.std.specs.Prelude.{◌≡◌, ℕ, List, [], ◌∷◌, Option, length, option_map};
+ghost use Rattle.std.specs.Prelude.{◌≡◌, List, [], ◌∷◌, Option, length, option_map};
 ghost use Rattle.cept_codes.specs.declared.cell.Cell.{Cell};
 ghost use Rattle.cept_codes.specs.declared.stroke.Stroke.{Stroke};
 ghost use Rattle.cept_codes.specs.Place.{Place};

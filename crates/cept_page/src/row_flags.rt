@@ -2,7 +2,6 @@ ghost use Rattle.std.specs.Prelude.{◌≡◌, ◌≤◌, ◌==◌, ◌&&◌, �
 ghost use Rattle.cept_codes.specs.Stroke.{IsValidStroke};
 ghost use Rattle.cept_codes.specs.Command.{IsArea};
 ghost use Rattle.cept_codes.specs.Table.{entry, list_by_index};
-ghost use Rattle.cept_profile.specs.Cells.{shifted};
 ghost use Rattle.cept_profile.specs.Look.{is_double, sets_double_size};
 ghost use Rattle.cept_profile.specs.Serial.{is_marker, row_in};
 ghost use Rattle.cept_page.specs.inside.MarkedRows.{AreFlagsAfter, IsUnflagged, gives_size};

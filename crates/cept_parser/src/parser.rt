@@ -1,4 +1,4 @@
-ghost use Rattle.std.specs.Prelude.{◌≡◌, ◌≤◌, ◌<◌, ◌+◌, ◌^◌, ◌-◌, ℕ, List, [], ◌++◌, length};
+ghost use Rattle.std.specs.Prelude.{◌≡◌, ◌≤◌, ◌<◌, ◌+◌, ◌-◌, ℕ, List, [], ◌++◌, length};
 ghost use Rattle.std.specs.Prelude.{true, false, IfSome, IsSome};
 ghost use Rattle.cept_parser.specs.Items.{items, closed_items, closing_items};
 ghost use Rattle.cept_parser.specs.Valid.{AreValid, AreMeasured};

@@ -1,16 +1,13 @@
-ghost use Rattle.std.specs.Prelude.{◌≡◌, ◌≤◌, ◌<◌, ◌+◌, ◌-◌, ◌||◌, ◌==◌, ℕ, false, not, [], ◌∷◌, length, IfSome, Some};
-ghost use Rattle.std.specs.List.{AllByRecursion, list_any};
-ghost use Rattle.cept_codes.specs.declared.cell.Cell.{Cell};
+ghost use Rattle.std.specs.Prelude.{◌≡◌, ◌<◌, ◌+◌, ◌-◌, ◌||◌, false, length, IfSome, Some};
+ghost use Rattle.std.specs.List.{AllByRecursion};
 ghost use Rattle.cept_codes.specs.Stroke.{IsValidStroke};
-ghost use Rattle.cept_codes.specs.Table.{list_by_index, entry};
+ghost use Rattle.cept_codes.specs.Table.{list_by_index};
 ghost use Rattle.cept_profile.specs.Edges.{is_last};
-ghost use Rattle.cept_profile.specs.PageParts.{row_pen_in};
 ghost use Rattle.cept_profile.specs.Reach.{just_one};
 ghost use Rattle.cept_profile.specs.Valid.{IsValidPage};
 ghost use Rattle.cept_page.specs.Parts.{pens_of};
 ghost use Rattle.cept_control.specs.SignWithin.{put_alone};
 ghost use Rattle.cept_redraw.specs.inside.Due.{AreCompared, followed, has_others, is_altered, is_altered_from};
-ghost use Rattle.cept_redraw.specs.Resolved.{defines};
 
 use crate::followed_rows::{Followed, one_defines};
 use cept_codes::{Row, Stroke};

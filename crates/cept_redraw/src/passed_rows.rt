@@ -1,7 +1,7 @@
 //! Rows as they stood before rows moved, where a walk from the top has passed them.
 
-ghost use Rattle.std.specs.Prelude.{◌≡◌, ◌≤◌, ◌+◌, ◌-◌, ℕ};
-ghost use Rattle.cept_profile.specs.RowsFromAbove.{blank_looks, looks_in};
+ghost use Rattle.std.specs.Prelude.{◌≡◌, ◌≤◌, ◌+◌, ◌-◌};
+ghost use Rattle.cept_profile.specs.RowsFromAbove.{blank_looks};
 ghost use Rattle.cept_redraw.specs.inside.Passed.{stood_in};
 
 use crate::kept_rows::KeptRows;

@@ -1,14 +1,13 @@
 //! A picture redrawn: strokes are drawn on its page, and the rows resolved that they alter or cover otherwise, and no
 //! others. The cases stand at the head of the crate.
 
-ghost use Rattle.std.specs.Prelude.{◌≡◌, ◌≢◌, ◌≤◌, ◌+◌, ◌==◌, ℕ, true, false, ◌∷◌, [], IfSome, if◌then◌else◌};
+ghost use Rattle.std.specs.Prelude.{◌≡◌, ◌≢◌, ◌+◌, true, false, if◌then◌else◌};
 ghost use Rattle.std.specs.Prelude.{option_map};
 ghost use Rattle.std.specs.List.{AllByRecursion};
-ghost use Rattle.cept_codes.specs.declared.cell.Cell.{Cell};
 ghost use Rattle.cept_codes.specs.Place.{OnScreen};
 ghost use Rattle.cept_codes.specs.Stroke.{IsValidStroke};
 ghost use Rattle.cept_codes.specs.Table.{list_by_index};
-ghost use Rattle.cept_profile.specs.Changes.{differences, grid_with_paint, look_at};
+ghost use Rattle.cept_profile.specs.Changes.{differences};
 ghost use Rattle.cept_profile.specs.Edges.{edges_of};
 ghost use Rattle.cept_profile.specs.Look.{looks_of};
 ghost use Rattle.cept_profile.specs.NotedStrokes.{with_strokes};
@@ -20,7 +19,7 @@ ghost use Rattle.cept_page.specs.MarkedRows.{StandsAlone};
 ghost use Rattle.cept_control.specs.SignWithin.{put_alone};
 ghost use Rattle.cept_redraw.specs.inside.Due.{at_rest, followed, is_altered};
 ghost use Rattle.cept_redraw.specs.Kept.{core_on};
-ghost use Rattle.cept_redraw.specs.inside.Kept.{OthersStay, look_alone, is_other_look};
+ghost use Rattle.cept_redraw.specs.inside.Kept.{OthersStay};
 ghost use Rattle.cept_redraw.specs.Marks.{no_marks};
 ghost use Rattle.cept_redraw.specs.inside.Named.{AreAllKnown, AreJustRemembered, IsUnmarkedBelow};
 ghost use Rattle.cept_redraw.specs.Picture.{IsNotedAlong, IsRedrawn};

@@ -1,4 +1,4 @@
-ghost use Rattle.std.specs.Prelude.{◌≡◌, ◌≤◌, length};
+ghost use Rattle.std.specs.Prelude.{◌≡◌, length};
 ghost use Rattle.cept_profile.specs.Changes.{look_at};
 ghost use Rattle.cept_profile.specs.Look.{looks_of};
 ghost use Rattle.cept_profile.specs.State.{core_of};

@@ -1,5 +1,5 @@
 //! The end of a line, which is kept for the next one: neighbours often differ in their shapes alone.
-ghost use Rattle.std.specs.Prelude.{◌≡◌, ◌+◌, ◌≤◌, ◌++◌, ◌↔◌, IsTrue};
+ghost use Rattle.std.specs.Prelude.{◌≡◌, ◌+◌, ◌++◌, ◌↔◌, IsTrue};
 ghost use Rattle.arrayvec.specs.ArrayVec.{array_vec_len};
 ghost use Rattle.cept_profile.specs.Changes.{look_at};
 ghost use Rattle.cept_profile.specs.Look.{looks_of};

@@ -10,7 +10,6 @@ ghost use Rattle.cept_report.specs.Ascii.{ascii};
 ghost use Rattle.cept_report.specs.Gathered.{Gathers};
 ghost use Rattle.cept_report.specs.Room.{GathersShape, HasRoomFor};
 ghost use Rattle.cept_report.specs.Front.{cell_line};
-ghost use Rattle.cept_report.specs.Text.{shape_text};
 
 use crate::ending::{Ending, add_ending};
 use crate::line::{Line, add_byte};

@@ -2,7 +2,7 @@ ghost use Rattle.std.specs.Prelude.{◌≡◌, ◌≤◌, [], false, IsOk, if◌
 ghost use Rattle.cept_codes.specs.Look.{IsValidLook};
 ghost use Rattle.cept_codes.specs.Place.{number};
 ghost use Rattle.cept_outside.specs.SinkState.{PutsText};
-ghost use Rattle.cept_profile.specs.Changes.{look_at, marked_looks};
+ghost use Rattle.cept_profile.specs.Changes.{marked_looks};
 ghost use Rattle.cept_profile.specs.Look.{looks_of};
 ghost use Rattle.cept_profile.specs.State.{core_of};
 ghost use Rattle.cept_redraw.specs.Marks.{IsFirstFrom};

@@ -1,7 +1,6 @@
-ghost use Rattle.std.specs.Prelude.{◌≡◌, ◌+◌, ◌≤◌, ◌++◌, length};
-ghost use Rattle.arrayvec.specs.ArrayVec.{array_vec_len};
+ghost use Rattle.std.specs.Prelude.{◌≡◌, ◌+◌, ◌≤◌};
 ghost use Rattle.cept_codes.specs.Look.{IsValidLook, IsValidShape};
-ghost use Rattle.cept_codes.specs.Place.{OnScreen, place_of};
+ghost use Rattle.cept_codes.specs.Place.{OnScreen};
 ghost use Rattle.cept_report.specs.Room.{Adds, HasRoomFor};
 ghost use Rattle.cept_report.specs.Screen.{look_sign, row_line, shape_sign};
 

@@ -1,6 +1,6 @@
-ghost use Rattle.std.specs.Prelude.{◌≡◌, ◌+◌, ◌≤◌, ◌++◌, length};
+ghost use Rattle.std.specs.Prelude.{◌≡◌, ◌+◌, ◌≤◌};
 ghost use Rattle.cept_writer.specs.AttributeCommands.{attribute_commands, attributes_commands};
-ghost use Rattle.cept_writer.specs.AttributeCommands.{attributes_of, class_attributes};
+ghost use Rattle.cept_writer.specs.AttributeCommands.{class_attributes};
 ghost use Rattle.cept_writer.specs.AttributeCommands.{colour_commands, flash_commands};
 ghost use Rattle.cept_writer.specs.AttributeCommands.{pen_commands, size_code};
 ghost use Rattle.cept_writer.specs.Codes.{code_of};

@@ -1,4 +1,4 @@
-ghost use Rattle.std.specs.Prelude.{◌≡◌, ◌+◌, ◌≤◌, ◌++◌, ◌∷◌, [], length};
+ghost use Rattle.std.specs.Prelude.{◌+◌, ◌++◌, ◌∷◌, []};
 ghost use Rattle.cept_codes.specs.declared.command.Command.TheVariants as commands;
 ghost use Rattle.cept_writer.specs.CellCommands.{accent_commands, marker_commands};
 ghost use Rattle.cept_writer.specs.Room.{Adds, HasRoomFor};

@@ -1,6 +1,5 @@
-ghost use Rattle.std.specs.Prelude.{◌≡◌, ◌+◌, ◌*◌, ◌≤◌, ◌<◌, ◌++◌, length};
-ghost use Rattle.arrayvec.specs.ArrayVec.{array_vec_len};
-ghost use Rattle.cept_codes.specs.Look.{IsValidPattern, bit_of, pixel};
+ghost use Rattle.std.specs.Prelude.{◌≡◌, ◌+◌, ◌*◌, ◌≤◌, ◌<◌};
+ghost use Rattle.cept_codes.specs.Look.{IsValidPattern, bit_of};
 ghost use Rattle.cept_parser.specs.Spelling.{half_line_byte, line_bytes, pattern_bytes, plane_bytes};
 ghost use Rattle.cept_writer.specs.Room.{AddsBytes, HasRoomForBytes};
 

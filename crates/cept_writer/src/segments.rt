@@ -1,4 +1,4 @@
-ghost use Rattle.std.specs.Prelude.{◌≡◌, ◌+◌, ◌*◌, ◌≤◌, ◌<◌, ◌++◌, ◌∷◌, [], ◌==◌, length};
+ghost use Rattle.std.specs.Prelude.{◌≡◌, ◌+◌, ◌*◌, ◌≤◌, ◌<◌, ◌++◌, ◌==◌, length};
 ghost use Rattle.std.specs.Prelude.{if◌then◌else◌, unwrap_or};
 ghost use Rattle.cept_codes.specs.Place.{place_of};
 ghost use Rattle.cept_codes.specs.Same.{same_glyph, same_set};
@@ -6,8 +6,8 @@ ghost use Rattle.cept_parser.specs.Spelling.{spellings};
 ghost use Rattle.cept_profile.specs.Tiling.{columns_of_size};
 ghost use Rattle.cept_writer.specs.Room.{Adds, HasRoomFor};
 ghost use Rattle.cept_writer.specs.declared.link.Link.TheVariants as links;
-ghost use Rattle.cept_writer.specs.SegmentCommands.{ends_segment, is_same_protection};
-ghost use Rattle.cept_writer.specs.SegmentCommands.{is_shorter_repeated, is_written_on};
+ghost use Rattle.cept_writer.specs.SegmentCommands.{ends_segment};
+ghost use Rattle.cept_writer.specs.SegmentCommands.{is_written_on};
 ghost use Rattle.cept_writer.specs.SegmentCommands.{closing_commands, manner_commands};
 ghost use Rattle.cept_writer.specs.SegmentCommands.{opening_commands, unit_commands};
 ghost use Rattle.cept_writer.specs.SegmentPieces.{beginning_of, closing_before, ending_of};

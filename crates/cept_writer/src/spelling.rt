@@ -1,9 +1,7 @@
-ghost use Rattle.std.specs.Prelude.{◌≡◌, ◌+◌, ◌*◌, ◌≤◌, ◌<◌, ◌++◌, ◌∷◌, [], length};
-ghost use Rattle.arrayvec.specs.ArrayVec.{array_vec_len};
+ghost use Rattle.std.specs.Prelude.{◌≡◌, ◌+◌, ◌*◌, ◌≤◌, ◌<◌, ◌∷◌, []};
 ghost use Rattle.cept_codes.specs.Command.{IsValidCommand, IsValidForm};
 ghost use Rattle.cept_codes.specs.Look.{IsValidRgb};
-ghost use Rattle.cept_parser.specs.Runs.{bit};
-ghost use Rattle.cept_parser.specs.Spelling.{c1_set_byte, colour_byte, ones_byte, set_bytes};
+ghost use Rattle.cept_parser.specs.Spelling.{colour_byte, ones_byte, set_bytes};
 ghost use Rattle.cept_parser.specs.Spelling.{size_byte, spelling, tens_byte};
 ghost use Rattle.cept_writer.specs.Room.{AddsBytes, HasRoomForBytes};
 

@@ -1,5 +1,5 @@
 -- What private clauses say beside `Rendition` (this project's own).
-use Rattle.std.specs.Prelude.{◌≡◌, ◌<◌, ℕ, ◌-◌, List}
+use Rattle.std.specs.Prelude.{◌≡◌, ◌<◌, ℕ, List}
 use Rattle.cept_charsets.specs.Rendition.{Row, point_in}
 
 -- a code point that renders a code of a column, of the first plane

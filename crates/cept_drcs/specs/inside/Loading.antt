@@ -1,5 +1,4 @@
 -- What private clauses say beside `Loading` (this project's own).
-use Rattle.std.specs.Prelude.{◌-◌}
 use Rattle.std.specs.Prelude.{None}
 use Rattle.cept_drcs.specs.Loading.{Loading, all_lines}
 

@@ -6,7 +6,7 @@ use Rattle.cept_codes.specs.declared.line_reason.LineReason.{LineReason}
 use Rattle.cept_editor.specs.declared.order.Order.{Order}
 use Rattle.cept_editor.specs.declared.order.Order.TheVariants as orders
 use Rattle.cept_editor.specs.declared.places.Span.{Span}
-use Rattle.cept_editor.specs.Meaning.{Step, UndoRedo}
+use Rattle.cept_editor.specs.Meaning.{Step}
 use Rattle.cept_editor.specs.Order.{command_of, order_step, IsSoundOrder}
 
 -- the place of bytes that end there in a script

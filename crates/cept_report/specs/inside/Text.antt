@@ -1,5 +1,5 @@
 -- What private clauses say beside `Text` (this project's own).
-use Rattle.std.specs.Prelude.{ℕ, ◌-◌, Bool, List}
+use Rattle.std.specs.Prelude.{ℕ, Bool, List}
 use Rattle.cept_codes.specs.declared.look.Look.{Look}
 use Rattle.cept_profile.specs.Changes.{marked_looks}
 use Rattle.cept_report.specs.Text.{change_lines}

@@ -1,4 +1,4 @@
-use Rattle.std.proofs.Common.{List, true, length, sym, subst, ◌∙◌}
+use Rattle.std.proofs.Common.{List, length, sym, subst, ◌∙◌}
 use Rattle.std.proofs.lemmas.Bool.{eqb-true}
 use Rattle.cept_codes.specs.declared.stroke.Stroke.{Stroke}
 use Rattle.cept_profile.specs.Edges.{Edges, edges_of}
