@@ -8,19 +8,12 @@ import sys
 from collections.abc import Iterable
 from types import ModuleType
 
-from btx import collection, debian, files, html_file, jobs, lists, making, pillow, program, progress, viewer, website
+from btx import collection, debian, files, html_file, jobs, lists, making, numbers, pillow, program, progress, viewer, website
 from btx.statuses import NOT_THERE, Status
 
 SUMMARY = "a website of a folder of pages, with an index and a report"
 # A status, and the sentence that says why.
 Fault = tuple[int, str]
-
-
-def count(text: str) -> int:
-    value = int(text)
-    if value < 1:
-        raise argparse.ArgumentTypeError("at least one page is made at once")
-    return value
 
 
 def arguments(parser: argparse.ArgumentParser) -> None:
@@ -35,7 +28,8 @@ def arguments(parser: argparse.ArgumentParser) -> None:
     parser.add_argument("--keep", action="store_true", help="keep and list pages that are no longer in the collection")
     separator = "german has semicolons in report.csv; without this english"
     parser.add_argument("--csv", choices=lists.SEPARATORS, default="english", help=separator)
-    parser.add_argument("--jobs", metavar="N", type=count, help="how many pages are made at once; without this as many as processors")
+    parser.add_argument("--jobs", metavar="N", type=numbers.whole("their number", 1),
+                        help="how many pages are made at once; without this as many as processors")
     parser.add_argument("--again", action="store_true", help="make all pages again")
     parser.add_argument("--jobs-by", choices=("btx", "parallel"), default="btx", help="what runs the jobs; parallel is GNU parallel")
     parser.add_argument("--sshlogin", metavar="LOGIN", action="append", default=[], help="a machine for parallel; may stand several times")

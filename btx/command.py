@@ -3,6 +3,7 @@ import argparse
 import os
 import signal
 import sys
+import textwrap
 from collections.abc import Callable, Sequence
 from typing import NoReturn, Protocol
 
@@ -37,22 +38,32 @@ btx PAGE shows a page as terminal does, btx help WORD describes a word, and a fi
 EXPLAINED = "The lines that it writes and its statuses are explained by: {cept_tool}"
 
 
+class Help(argparse.HelpFormatter):
+    """Breaks no line within a path, which may have a hyphen."""
+
+    def _fill_text(self, text: str, width: int, indent: str) -> str:
+        return textwrap.fill(
+            " ".join(text.split()), width, initial_indent=indent, subsequent_indent=indent, break_on_hyphens=False, break_long_words=False
+        )
+
+
 def parsers() -> argparse.ArgumentParser:
     """The parser of all words; each word's own has its help."""
     manuals = {name: program.manual(name) for name in ("btx", program.NAME)}
     explained = EXPLAINED.format(**manuals)
     parser = argparse.ArgumentParser(
-        prog="btx", description="Shows, checks and edits stored Bildschirmtext pages.", epilog=EPILOG.format(**manuals), allow_abbrev=False
+        prog="btx", description="Shows, checks and edits stored Bildschirmtext pages.", epilog=EPILOG.format(**manuals), allow_abbrev=False,
+        formatter_class=Help,
     )
     parser.add_argument("--version", action="version", version=f"btx {VERSION}")
     words = parser.add_subparsers(dest="word", metavar="WORD", title="words")
     for word, module in OWN.items():
-        one = words.add_parser(word, help=module.SUMMARY, description=module.__doc__, allow_abbrev=False)
+        one = words.add_parser(word, help=module.SUMMARY, description=module.__doc__, allow_abbrev=False, formatter_class=Help)
         one.set_defaults(own=one)
         module.arguments(one)
     for word, (wanted, writes) in program.WORDS.items():
         usage = messages.usage(word).partition(": ")[2]
-        one = words.add_parser(word, help=writes, description=f"Writes {writes}.", usage=usage, epilog=explained)
+        one = words.add_parser(word, help=writes, description=f"Writes {writes}.", usage=usage, epilog=explained, formatter_class=Help)
         for name in wanted.split(" "):
             one.add_argument(name)
         one.add_argument("-o", "--output", metavar="FILE", help="where to write it, once it is whole; without this to standard output")

@@ -1,4 +1,5 @@
 """What is wrong with a line of a script or a drawing, told so that it can be mended."""
+import codecs
 import string
 import unicodedata
 from collections.abc import Sequence
@@ -154,7 +155,13 @@ def told(path: program.Runner, name: str, data: bytes, kind: str) -> list[str]:
 
 
 def hint(name: str, data: bytes, kind: str) -> list[str]:
-    """A sentence, where it is of the other kind that all lines begin with words; else none."""
+    """A sentence, where it begins as UTF-16 does, has a US, which begins units of a page, or all its lines begin with words of the other kind;
+    else none."""
+    if data.startswith((codecs.BOM_UTF16_LE, codecs.BOM_UTF16_BE)):
+        return [f"{typed.shown(name)}: it looks like UTF-16, and a {kind} is UTF-8: save it as that"]
+    if b"\x1f" in data:
+        word = grammar.TAKEN_BY[kind]
+        return [f"{typed.shown(name)}: it looks like a page: check checks it, and {word} takes a page first, and then a {kind}"]
     other, said = OTHERS[kind]
     lines = [line for line in map(typed.spaced, typed.lines_of(data)) if line and not line.startswith("#")]
     is_other = all(line.partition(" ")[0] in grammar.WORDS[other] for line in lines)

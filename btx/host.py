@@ -6,7 +6,7 @@ import asyncio
 import time
 from typing import Protocol
 
-from btx import debian, guest, messages, program, recording, say, web
+from btx import debian, guest, messages, numbers, program, recording, say, web
 from btx.statuses import NOT_THERE
 
 SUMMARY = "a small host for trying terminals, with the pages of a folder"
@@ -20,33 +20,16 @@ PIECES = 50
 MOST_TYPED = 64
 
 
-def port(text: str) -> int:
-    value = int(text)
-    if not 0 <= value <= 65535:
-        raise argparse.ArgumentTypeError("a port is 0 to 65535")
-    return value
-
-
-def count(text: str) -> int:
-    value = int(text)
-    if value < 1:
-        raise argparse.ArgumentTypeError("it takes a number from 1 on")
-    return value
-
-
-def bits(text: str) -> int:
-    return 0 if text == "0" else count(text)
-
-
 def arguments(parser: argparse.ArgumentParser) -> None:
     parser.add_argument("folder", metavar="FOLDER")
-    parser.add_argument("--port", type=port, required=True, metavar="N", help="the port; 0 takes one that is free, and says which")
-    parser.add_argument("--bits", type=bits, default=BITS, metavar="BITS",
+    parser.add_argument("--port", type=numbers.whole("a port", 0, 65535), required=True, metavar="N", help="the port; 0 takes one that is free, and says which")
+    parser.add_argument("--bits", type=numbers.whole("a speed", 0), default=BITS, metavar="BITS",
                         help=f"how many bits a second; 0 is at once, and without it {BITS}")
     parser.add_argument("--bind", default=HERE, metavar="ADDRESS", help="for which address it listens; without it this machine alone")
-    parser.add_argument("--patience", type=count, default=PATIENCE, metavar="SECONDS",
+    parser.add_argument("--patience", type=numbers.whole("a time", 1), default=PATIENCE, metavar="SECONDS",
                         help=f"after how long a guest is dropped who asks for nothing; without it {PATIENCE}")
-    parser.add_argument("--guests", type=count, default=GUESTS, metavar="N", help=f"how many there may be at once; without it {GUESTS}")
+    parser.add_argument("--guests", type=numbers.whole("their number", 1), default=GUESTS, metavar="N",
+                        help=f"how many there may be at once; without it {GUESTS}")
     parser.add_argument("--web", action="store_true", help="the line is a WebSocket, for the viewer; takes python3-websockets")
 
 

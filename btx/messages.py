@@ -88,11 +88,19 @@ def not_utf8(word: str, names: Sequence[str]) -> str:
     return ""
 
 
+def of_count(word: str, words: Sequence[str], wanted: Sequence[str]) -> str:
+    """That there are too few words, or too many, of which one may be meant as an option."""
+    option = next((name for name in words if len(name) > 1 and name.startswith("-")), None)
+    if option:
+        return f"{typed.shown(option)} is no option of {word}"
+    return f"takes {COUNTS[len(wanted)]} word{'s' if len(wanted) > 1 else ''} after it, {' and '.join(wanted)}, and not {len(words)}"
+
+
 def no_request(run: Run) -> str:
     """Why the words are no request."""
     word, words, wanted = run.word, run.words, program.WORDS[run.word][0].split(" ")
     if len(words) != len(wanted):
-        reason = f"takes {COUNTS[len(wanted)]} word{'s' if len(wanted) > 1 else ''} after it, {' and '.join(wanted)}, and not {len(words)}"
+        reason = of_count(word, words, wanted)
     elif "" in words:
         reason = "a name is empty"
     elif wanted[-1] == "NUMBER":
@@ -105,7 +113,7 @@ def no_request(run: Run) -> str:
 
 
 def bad_lines(run: Run) -> str:
-    """Which lines of the script or the drawing are bad, and what is wrong in each; and whether it looks like the other of these."""
+    """Which lines of the script or the drawing are bad, and what is wrong in each; and whether it looks like a page or the other of these."""
     name, script, kind = run.words[1], run.given.typed or b"", kind_of(run.word)
     return "\nbtx: ".join(f"{run.word}: {one}" for one in [*faults.told(run.path, name, script, kind), *faults.hint(name, script, kind)])
 

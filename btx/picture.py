@@ -3,30 +3,18 @@ in a folder. What flashes is shown as it is seen."""
 import argparse
 import os
 import sys
-from collections.abc import Callable
 from types import ModuleType
 
-from btx import canvas, files, html_file, looks, pillow, program, say, telling
+from btx import canvas, files, html_file, looks, numbers, pillow, program, say, telling
 
 SUMMARY = "a picture of the screen at the end of each page, as PNG"
 MOST_SCALE, PHASES = 8, 6
 ENDING = ".png"
 
 
-def whole(least: int, most: int, what: str) -> Callable[[str], int]:
-    """Reads a number between two."""
-    def read(text: str) -> int:
-        value = int(text)
-        if not least <= value <= most:
-            raise argparse.ArgumentTypeError(f"{what} is {least} to {most}")
-        return value
-    read.__name__ = "int"
-    return read
-
-
 def add_scale(parser: argparse.ArgumentParser) -> None:
     """The option of the size, which every picture has."""
-    scale, what = whole(1, MOST_SCALE, "a scale"), "how many times two by three pixels a dot has, 1 to 8; without it 1"
+    scale, what = numbers.whole("a scale", 1, MOST_SCALE), "how many times two by three pixels a dot has, 1 to 8; without it 1"
     parser.add_argument("--scale", type=scale, default=1, metavar="TIMES", help=what)
 
 
@@ -35,7 +23,7 @@ def add_reveal(parser: argparse.ArgumentParser) -> None:
 
 
 def add_phase(parser: argparse.ArgumentParser) -> None:
-    phase, what = whole(0, PHASES - 1, "a phase"), "which of the six phases of flashing, 0 to 5; without it each sign as it is seen"
+    phase, what = numbers.whole("a phase", 0, PHASES - 1), "which of the six phases of flashing, 0 to 5; without it each sign as it is seen"
     parser.add_argument("--phase", type=phase, metavar="PHASE", help=what)
 
 

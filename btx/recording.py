@@ -8,6 +8,8 @@ import re
 import time
 from typing import Protocol
 
+from btx import typed
+
 TIMES = ".times"
 BITS_OF_A_BYTE = 10
 LINE = re.compile(r"(\d{1,15}) (\d{1,8})")
@@ -98,9 +100,12 @@ def times_of(page: str) -> Times:
 
 def seconds(text: str) -> float:
     """A number of seconds, as argparse takes it."""
-    value = float(text)
+    try:
+        value = float(text)
+    except ValueError:
+        value = -1
     if not 0 <= value < float("inf"):
-        raise argparse.ArgumentTypeError("it takes a number of seconds, or 0")
+        raise argparse.ArgumentTypeError(f"a time is a number of seconds, or 0, and not {typed.shown(text)}")
     return value
 
 

@@ -9,7 +9,7 @@ import time
 from collections.abc import Iterable, Iterator, Mapping, Sequence
 from typing import Protocol, TextIO
 
-from btx import canvas, files, looks, messages, program, recording, say, screens, signs
+from btx import canvas, files, looks, messages, numbers, program, recording, say, screens, signs
 
 SUMMARY = "the page in colour in the terminal"
 # So many looks are kept with what shows them: a line may bring any number of patterns.
@@ -24,12 +24,8 @@ PLAIN, HIDE, SHOW, CLEAR, HOME = "\x1b[0m", "\x1b[?25l", "\x1b[?25h", "\x1b[2J",
 AUTO = "auto"
 KINDS = (AUTO, signs.SEXTANTS, signs.BLOCKS, signs.ASCII, screens.KITTY, screens.SIXEL)
 
-
-def speed(text: str) -> int:
-    value = int(text)
-    if value < 1:
-        raise argparse.ArgumentTypeError("a speed is at least 1 bit a second")
-    return value
+# How many bits a second.
+speed = numbers.whole("a speed", 1)
 
 
 def add_signs(parser: argparse.ArgumentParser, kinds: Sequence[str], usual: str) -> None:

@@ -100,11 +100,14 @@ class Faults(stand.Case):
             told = [f"btx: {word}: {script}, line {number}: {found[number]}" for number in sorted(found)]
             self.assertEqual(done.stderr.decode().splitlines(), told)
 
-    def test_a_drawing_that_is_taken_for_a_script_is_told_and_a_script_for_a_drawing(self):
+    def test_what_is_taken_for_a_script_or_a_drawing_is_told(self):
         drawing, script = (self.written(name, data) for name, data in (("one", b"# a\n\nplot 1 1\n line  0 0 9 9\n"), ("other", b"at 1 1\ntext A\n")))
+        wide = self.written("wide", "at 1 1\ntext A\n".encode("utf-16"))
         for path, options, word, said in (
             (drawing, (), "edit", "it looks like a drawing: plot takes it, and check-script --drawing checks it"),
             (script, ("--drawing",), "plot", "it looks like a script: edit takes it, and check-script without --drawing checks it"),
+            (stand.page("boat"), (), "edit", "it looks like a page: check checks it, and edit takes a page first, and then a script"),
+            (wide, (), "edit", "it looks like UTF-16, and a script is UTF-8: save it as that"),
         ):
             listed = stand.btx("check-script", *options, path)
             self.assertEqual((listed.returncode, listed.stdout.decode().splitlines()[-2]), (3, f"{path}: {said}"))

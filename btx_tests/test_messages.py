@@ -67,8 +67,19 @@ class Messages(stand.Case):
             (["show", self.path("\udcdc")], "\\xdc isn't UTF-8, and the program takes no other; btx show - reads standard input"),
             (["flash", page, "601"], "601 is no number from 0 to 600"), (["flash", page], "usage: btx flash PAGE NUMBER"),
             (["viewer", page], "usage: btx viewer "), (["diff", page, page, page], "usage: btx diff "),
+            (["show", "--reveal", page], "show: --reveal is no option of show\n"),
         ):
             self.assertEqual(self.ends(words, 2, said).stdout, b"")
+
+    def test_numbers_that_options_do_not_take(self):
+        page, speed = stand.page("title"), "a speed is a whole number from 1 on, and not "
+        for words, said in (
+            (["terminal", page, "--replay", "abc"], f"{speed}abc"), (["gif", page, "--replay", "0"], f"{speed}0"),
+            (["terminal", page, "--replay", "1" * 19], speed), (["host", stand.PAGES, "--port", "65536"], "whole number from 0 to 65535, and not 65536"),
+            (["png", page, "--scale", "+1"], "a scale is a whole number from 1 to 8, and not +1"),
+            (["cut", page, "--pause", "long", "-o", self.path("parts")], "a time is a number of seconds, or 0, and not long"),
+        ):
+            self.ends(words, 2, said)
 
     def test_unknown_words_are_answered_with_the_nearest(self):
         for word, nearest in (("shwo", "show"), ("Check", "check"), ("terminl", "terminal"), ("htm", "html")):

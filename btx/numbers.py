@@ -1,0 +1,20 @@
+"""The numbers that options take."""
+import argparse
+from collections.abc import Callable
+
+from btx import typed
+
+# No option takes a longer one.
+MOST_DIGITS = 18
+
+
+def whole(what: str, least: int, most: int | None = None) -> Callable[[str], int]:
+    """What reads a whole number from one on, or between two, in decimal digits."""
+    taken = f"a whole number from {least} {'on' if most is None else f'to {most}'}"
+
+    def read(text: str) -> int:
+        is_number = text.isascii() and text.isdigit() and len(text) <= MOST_DIGITS
+        if not is_number or int(text) < least or (most is not None and int(text) > most):
+            raise argparse.ArgumentTypeError(f"{what} is {taken}, and not {typed.shown(text)}")
+        return int(text)
+    return read
