@@ -79,7 +79,7 @@ def film_of(board: canvas.Canvas, path: program.Runner, options: argparse.Namesp
     """The frames of a page."""
     with files.read_again(options.page) as page:
         if options.end:
-            return frames_of(board, [(0, looks.cells_of(program.text_put(path, "cells", page)))], STEPS)
+            return frames_of(board, [(0, picture.looks_at_end(path, page))], STEPS)
         moments, length = moments_of(path, page, options.replay)
     return frames_of(board, moments, length + REST * STEPS)
 

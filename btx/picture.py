@@ -58,10 +58,17 @@ def targets_of(options: argparse.Namespace, ending: str) -> list[str]:
     return [os.path.join(options.output, name + ending) for name in names]
 
 
+def looks_at_end(path: program.Runner, page: str) -> looks.Cells:
+    """The looks at the end of a page, of the rows below its format too: cells leaves these out, and flash doesn't."""
+    cells = looks.cells_of(program.text_put(path, "cells", page))
+    shown = (line.partition(" ")[2] for line in program.text_put(path, "flash", page, "0").splitlines())
+    return looks.cells_of("\n".join(shown)) | cells
+
+
 def cells_of(path: program.Runner, page: str) -> looks.Cells:
-    """The looks at the end of a page."""
+    """The same of a page that may be read once alone."""
     with files.read_again(page) as again:
-        return looks.cells_of(program.text_put(path, "cells", again))
+        return looks_at_end(path, again)
 
 
 def write(image: ModuleType, path: program.Runner, options: argparse.Namespace) -> int:

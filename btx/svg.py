@@ -84,7 +84,7 @@ def document(board: canvas.Canvas, cells: looks.Cells, text: str, title: str) ->
 
 def run(path: program.Runner, options: argparse.Namespace) -> int:
     with files.read_again(options.page) as page:
-        cells = looks.cells_of(program.text_put(path, "cells", page))
+        cells = picture.looks_at_end(path, page)
         text = program.text_put(path, "show", page)
     board = canvas.Canvas(options.reveal, options.phase)
     with files.output(options.output) as file:

@@ -60,6 +60,12 @@ class Png(Case):
         for name in ("title", "boat", "patterns", "signs", "weather"):
             self.shows(self.picture(stand.page(name)), cells_at_end(name))
 
+    def test_rows_below_the_format_are_as_a_display_shows_them(self):
+        page = self.written("whole", b"\x1f\x2d\x41\x70\x1b\x23\x20\x54A")
+        short = self.written("short", b"\x1f\x2d\x42\x70\x1b\x23\x20\x54A")
+        self.assertEqual(self.picture(page), self.picture(short))
+        self.assertEqual(self.picture(short)[700][10], "0000FF")
+
     def test_each_dot_has_two_by_three_pixels_times_the_scale(self):
         once, thrice = self.picture(stand.page("title")), self.picture(stand.page("title"), "--scale", "3")
         self.assertEqual((len(once[0]), len(once), len(thrice[0]), len(thrice)), (960, 720, 2880, 2160))
