@@ -48,6 +48,11 @@ class Install(stand.Case):
                 self.assertIn(b"the decoder's module isn't installed", done.stderr)
         self.assertIn(b"no such file", self.run_of(command, "show", "nowhere").stderr)
         self.shows_a_line(prefix, command, page)
+        package = glob.glob(os.path.join(glob.escape(prefix), "**", "tamligub", "__main__.py"), recursive=True)
+        if package:
+            places = {**self.bare(), "PYTHONPATH": os.path.dirname(os.path.dirname(package[0]))}
+            shown = self.is_right(self.run_of(sys.executable, "-m", "tamligub", "show", page, cwd="/", env=places))
+            self.assertEqual(shown, stand.put("show", stand.page("title")))
 
     def shows_a_line(self, prefix, command, page):
         """Whether btx shows what comes over standard input by the library under the prefix, or says that there is none."""

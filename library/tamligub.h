@@ -89,7 +89,7 @@ uint32_t tamligub_run(const uint8_t *word, size_t word_length, uint32_t given, u
  *
  * A decoder takes all its memory by malloc when it is opened, 247 KB; after that only tamligub_write and tamligub_snapshot take
  * some, and give it back, and the first edit takes about 2.3 MB, which are given back when the decoder is closed.
- * Where a call answers 1 no more was done than that `notices` is 0.
+ * Where a call answers 1 no more was done than that `notices` is 0, and `reason`, where it takes one.
  *
  * At the start the display is blank: each of the 24 rows of 40 places has no sign (kind 0), white (15, 15, 15) on black (0, 0, 0), steady.
  * Neither tamligub_open nor the first bytes tell this: a place is told once an item changes it, so clear the display to it before.
@@ -142,7 +142,7 @@ typedef struct {
  * concealed. tamligub_signs.h has the dots of each sign, and docs/PROFILE.md its character, under "Signs in Unicode". There all mosaics are
  * U+2592: which blocks one of set 2 has is said under "Drawings", and example_live.c makes of them the characters from U+1FB00 on. */
 typedef struct {
-    uint64_t at;                   /* how many bytes stand before the item; of a line all bytes of the page */
+    uint64_t at;                   /* how many bytes stand before the item; of a line all bytes of the page, of a phase those fed */
     uint8_t kind;
     uint8_t length, reason;        /* 2: how many bytes, and why: 1 to 7, as in cept_tool(1) */
     uint8_t row, column;           /* 1: 1 to 24 from the top, 1 to 40 from the left */
@@ -218,7 +218,7 @@ uint32_t tamligub_colours(tamligub_decoder *decoder, tamligub_colour_entries *co
  *   3  the line is outside the grammar of scripts: `reason` says why, 1 to 6, in the order of cept_tool(1)
  *   6  there is no memory for the first edit
  *   7  the line has more than 2^20 bytes
- * But for 0 all stays, and `notices` is 0. */
+ * But for 0 all stays, and `notices` is 0; but for 3 `reason` is 0. */
 uint32_t tamligub_line(tamligub_decoder *decoder, const uint8_t *line, size_t length, tamligub_notice *list, size_t room,
                        uint64_t *notices, uint32_t *reason);
 

@@ -291,6 +291,7 @@ class Decoder {
     feedIn(bytes, after) {
         const { wasm, bytes: at, list, number } = this.shared;
         bytesIn(bytes);
+        if (this.handle === null) throw new Closed("the decoder is closed");
         while (bytes.length > 0) {
             const piece = bytes.subarray(0, BYTES_AT_ONCE);
             new Uint8Array(wasm.memory.buffer).set(piece, at);

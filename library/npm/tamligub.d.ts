@@ -47,7 +47,7 @@ export interface Pattern {
 
 /** What an item or a line says. Kind 1: a place looks otherwise now. Kind 2: bytes are refused. What is said of the other kind alone is 0. */
 export interface Notice {
-    /** How many bytes stand before the item; of a line all bytes of the page. */
+    /** How many bytes stand before the item; of a line all bytes of the page, of a phase those fed. */
     readonly at: number;
     readonly kind: 1 | 2;
     /** Of kind 2: how many bytes, and why: 1 UnassignedControl, 2 UnknownEscape, 3 UnknownCsi, 4 UnknownUnit, 5 BadParameter, 6 Interrupted,

@@ -20,7 +20,9 @@ def main() -> None:
     if found is None:
         raise SystemExit("btx isn't on this machine: in Debian the package tamligub has it")
     sys.path.insert(0, found)
-    importlib.import_module("btx.command").main(sys.argv[1:], os.path.join(found, "bin"))
+    # The program stands in bin: of a checkout beside the command's files, of a prefix beside the share that they are in.
+    folders = [os.path.normpath(os.path.join(found, place)) for place in ("bin", "../../bin")]
+    importlib.import_module("btx.command").main(sys.argv[1:], next(filter(os.path.isdir, folders), folders[0]))
 
 
 if __name__ == "__main__":
