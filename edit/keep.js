@@ -2,7 +2,7 @@
 import { TABLES, word } from "./words.js";
 import { STATUS } from "./statuses.js";
 import { textOf } from "./ask.js";
-import { AskFault } from "./faults.js";
+import { AskFault, NotUtf8 } from "./faults.js";
 import { Store, isBegun, toLetters } from "./store.js";
 import { part } from "./controls.js";
 
@@ -44,6 +44,18 @@ export function sortedFiles(files) {
 export function remarksOn(page, rest) {
   const taken = page && !IS_PAGE.test(page) ? word("takenAsPage", { name: page }) : "";
   return [taken, rest.length ? word("leftOut", { names: rest.join(", ") }) : ""].filter((said) => said).join(" ");
+}
+
+/**
+ * The text that bytes are in UTF-8, or null where they are none.
+ * @param {ArrayBuffer} bytes
+ */
+function utf8In(bytes) {
+  try {
+    return new TextDecoder("utf-8", { fatal: true }).decode(bytes);
+  } catch {
+    return null;
+  }
 }
 
 /**
@@ -240,7 +252,11 @@ export class Keep {
     const remarks = remarksOn(page ? page.name : null, rest.map((file) => file.name));
     if (named && !(await this.mayLeave())) return;
     /** @type {(file: File) => Promise<string>} */
-    const textIn = async (file) => (await file.text()).replace(/\r\n?/g, "\n");
+    const textIn = async (file) => {
+      const found = utf8In(await file.arrayBuffer());
+      if (found === null) throw new NotUtf8(word("notUtf8", { name: file.name }));
+      return found.replace(/\r\n?/g, "\n");
+    };
     try {
       const bytes = page ? new Uint8Array(await page.arrayBuffer()) : this.needs.sheet.page;
       const [text, figures] = [script ? await textIn(script) : "", drawing ? await textIn(drawing) : ""];
@@ -248,7 +264,7 @@ export class Keep {
       if (figures) this.tell({ kind: "figures", text: figures });
       if (remarks) this.say(remarks);
     } catch (fault) {
-      this.say(this.endOf(fault, name), true);
+      this.say(fault instanceof NotUtf8 ? fault.message : this.endOf(fault, name), true);
     }
   }
 
