@@ -240,7 +240,7 @@ class Npm(stand.Case):
         body = re.search(r"^class Decoder \{\n(.*?)^\}$", npm.text_of(npm.SCRIPT), re.MULTILINE | re.DOTALL)[1]
         own = {"call", "feedIn", "noticesOf", "textOf"}
         for call in set(re.findall(r"^    (?:static )?(\w+)\(", body, re.MULTILINE)) - own:
-            self.assertRegex(types, rf"\b{call}\(")
+            self.assertRegex(types, rf"\b{call}[(<]")
 
 
 class Module(stand.Case):

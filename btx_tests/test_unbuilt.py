@@ -102,6 +102,16 @@ class Unbuilt(stand.Case):
                 self.assertFalse(os.path.exists(words[-1]))
             self.executable(os.path.join(self.tree, "out/quick/cept_tool"), "#!/bin/sh\n")
 
+    def test_the_unproved_program_is_not_installed_by_its_name(self):
+        """Nor is one with its bytes, also where there is a proved one."""
+        shutil.copy(stand.program, self.executable(os.path.join(self.tree, "crates/cept_tool/out/cept_tool"), ""))
+        quick = self.executable(os.path.join(self.tree, "out/quick/cept_tool"), "#!/bin/sh\nexit 6\n")
+        copy = shutil.copy(quick, self.path("copy"))
+        for named, words in ((quick, [self.path("prefix")]), (copy, [self.path("prefix")]), (quick, ["--deb", self.path("deb")])):
+            status, output, error = self.run_of("install", *words, env={**self.with_kit, "BTX_PROGRAM": named})
+            self.assertEqual((status, output, os.path.exists(words[-1])), (1, b"", False))
+            self.assertEqual(error, f"install: {named} is the unproved program that ./build --quick keeps; {self.tree}/build {PROVES}\n")
+
     def test_an_install_without_library_and_module_says_what_builds_them(self):
         shutil.copy(stand.program, self.executable(os.path.join(self.tree, "crates/cept_tool/out/cept_tool"), ""))
         status, _, error = self.run_of("install", self.path("prefix"))

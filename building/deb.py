@@ -1,5 +1,6 @@
 """The packages of Debian: program and btx, the shared library, what programs in C are built with, and the package for Python."""
 import gzip
+import hashlib
 import os
 import shutil
 import subprocess
@@ -25,6 +26,7 @@ ABOUT = """ Bildschirmtext was the German videotex service (CEPT profile 1). Thi
  of stored pages is proved to meet its contracts.
 """
 PYTHON = "python3 (>= 3.10)"
+FIRST = b"#!/usr/bin/python3\n"
 
 
 class Failed(Exception):
@@ -34,13 +36,24 @@ class Failed(Exception):
 def stripped(place, name):
     """Takes from a file the names that only a debugger reads, as Debian has its own, where this machine can."""
     if shutil.which("strip"):
-        asked("strip", "--strip-unneeded", os.path.join(place.prefix, name))
+        with tempfile.TemporaryDirectory(prefix="btx-deb-") as work:
+            path = os.path.join(work, os.path.basename(name))
+            place.files[name].make(path)
+            asked("strip", "--strip-unneeded", path)
+            place.copy(name, path, place.files[name].mode)
+
+
+def of_system(place, name):
+    """Has a command run by the Python of the system, whichever is the first on a PATH."""
+    _, _, rest = place.files[name].data.partition(b"\n")
+    place.write(name, FIRST + rest, place.files[name].mode)
 
 
 def program(place, binary):
     parts.put_program(place, binary)
     parts.put_module(place)
     stripped(place, "bin/cept_tool")
+    of_system(place, "bin/btx")
 
 
 def shared_library(place, _):
@@ -87,6 +100,16 @@ PACKAGES = {
 # What dpkg reads of the shared library: the name by which packages depend on it, and since when it has its functions.
 SHLIBS = "libtamligub 1 libtamligub1 (>= {version})\n"
 TRIGGERS = "activate-noawait ldconfig\n"
+# The packages that have Python, each with the folder of its own in which that is, where it is in none that Python itself searches. Debian
+# compiles it when a package is configured, and takes away what was compiled before the package goes.
+COMPILED = {"tamligub": " /usr/share/tamligub", "python3-tamligub": ""}
+SCRIPTS = {"postinst": "py3compile", "prerm": "py3clean"}
+SCRIPT = """#!/bin/sh
+set -e
+if command -v {command} >/dev/null 2>&1; then
+    {command} -p {name}{folder}
+fi
+"""
 
 
 def symbols():
@@ -112,12 +135,6 @@ def multiarch():
     return getattr(sys.implementation, "_multiarch", None) or "x86_64-linux-gnu"
 
 
-def write(path, text, mode=0o644):
-    with open(path, "w", encoding="utf-8") as file:
-        file.write(text)
-    os.chmod(path, mode)
-
-
 def put_about(place, name):
     """What each package says of itself."""
     for one in ("copyright", "changelog"):
@@ -137,6 +154,25 @@ def control_of(name, folder, known):
     )
 
 
+def sums(place):
+    """The sum of each file, by which dpkg tells one that has changed."""
+    files = sorted((name, file) for name, file in place.files.items() if isinstance(file, tree.File))
+    return "".join(f"{hashlib.md5(file.data, usedforsecurity=False).hexdigest()}  usr/{name}\n" for name, file in files)
+
+
+def told(name, place, known):
+    """What dpkg is told of a package: the files of its folder DEBIAN."""
+    told = tree.Tree(os.path.join(os.path.dirname(place.prefix), "DEBIAN"), None)
+    texts = {"control": control_of(name, place.prefix, known), "md5sums": sums(place)}
+    if name == "libtamligub1":
+        texts |= {"shlibs": SHLIBS.format(version=VERSION), "symbols": symbols(), "triggers": TRIGGERS}
+    for one, text in texts.items():
+        told.write(one, text.encode())
+    for one, command in SCRIPTS.items() if name in COMPILED else ():
+        told.write(one, SCRIPT.format(command=command, name=name, folder=COMPILED[name]).encode(), 0o755)
+    return told
+
+
 def make_one(name, folder, binary, known):
     """Makes a package in a folder, and answers its path."""
     put, architecture, *_ = PACKAGES[name]
@@ -144,15 +180,11 @@ def make_one(name, folder, binary, known):
     with tempfile.TemporaryDirectory(prefix="btx-deb-") as top:
         os.chmod(top, 0o755)
         place = tree.Tree(os.path.join(top, "usr"), "/usr", f"lib/{multiarch()}")
-        os.mkdir(place.prefix)
         put(place, binary)
         put_about(place, name)
-        os.mkdir(os.path.join(top, "DEBIAN"))
-        write(os.path.join(top, "DEBIAN", "control"), control_of(name, place.prefix, known))
-        if name == "libtamligub1":
-            for one, text in (("shlibs", SHLIBS.format(version=VERSION)), ("symbols", symbols()), ("triggers", TRIGGERS)):
-                write(os.path.join(top, "DEBIAN", one), text)
-        asked("dpkg-deb", "--root-owner-group", "--build", top, path)
+        place.lay()
+        told(name, place, known).lay()
+        tree.put(path, lambda new: asked("dpkg-deb", "--root-owner-group", "--build", top, new))
     return path
 
 

@@ -14,9 +14,11 @@ def interrupted(*_):
 
 
 def heed_ends():
-    """Has a request to end, or the end of the terminal, end the build as an interrupt does."""
+    """Has a request to end, or the end of the terminal, end the build as an interrupt does; an interrupt that is ignored stays so."""
     for number in (signal.SIGTERM, signal.SIGHUP):
         signal.signal(number, interrupted)
+    if signal.getsignal(signal.SIGINT) is not signal.SIG_IGN:
+        signal.signal(signal.SIGINT, interrupted)
 
 
 def end(command):
@@ -55,8 +57,8 @@ def do(*words, cwd):
 
 def main(make):
     """Runs a build, and prints the paths of what it made."""
-    heed_ends()
     try:
+        heed_ends()
         print(*make(), sep="\n")
     except Stop as why:
         raise SystemExit(f"build: {why}")

@@ -1,57 +1,137 @@
 """A tree of files under a prefix, with a list of what was put there, by which it is taken away."""
 import contextlib
 import os
+import shutil
+from typing import NamedTuple
 
 # What is installed under a prefix, a line for each file, and for each folder that was made.
 LIST = "share/tamligub/installed"
+# What a file that is being written ends with.
+NEW = ".tamligub-new"
+# The folder in which Python keeps what it compiles of the files beside it.
+COMPILED = "__pycache__"
+# So many files of others are named.
+NAMED = 3
+
+
+class Refused(Exception):
+    """Nothing was put under a prefix; the text says what stands there."""
+
+
+class File(NamedTuple):
+    """A file of bytes."""
+
+    data: bytes
+    mode: int
+
+    def make(self, path):
+        with open(path, "wb") as file:
+            file.write(self.data)
+        os.chmod(path, self.mode)
+
+    def is_at(self, path):
+        """Whether these very bytes are there."""
+        return os.path.isfile(path) and not os.path.islink(path) and bytes_of(path) == self.data
+
+
+class Link(NamedTuple):
+    """A link to a file beside it."""
+
+    target: str
+
+    def make(self, path):
+        os.symlink(self.target, path)
+
+    def is_at(self, path):
+        """Whether this very link is there."""
+        return os.path.islink(path) and os.readlink(path) == self.target
 
 
 class Tree:
-    """What is installed under a prefix, which is known as `known_as` once it is in use; `libraries` is where it has libraries."""
+    """What is to be installed under a prefix, which is known as `known_as` once it is in use; `libraries` is where it has libraries."""
 
     def __init__(self, prefix, known_as, libraries="lib"):
-        self.prefix, self.known_as, self.libraries, self.files, self.folders = prefix, known_as, libraries, [], []
-
-    def folder(self, place):
-        """Makes a folder and those that it is in, as far as they aren't there."""
-        if place and not os.path.isdir(os.path.join(self.prefix, place)):
-            self.folder(os.path.dirname(place))
-            os.mkdir(os.path.join(self.prefix, place))
-            self.folders.append(place)
-
-    def put(self, place, make):
-        """What `make` makes at a path, by another name first, so that a program that runs is replaced and not written over."""
-        self.folder(os.path.dirname(place))
-        path = os.path.join(self.prefix, place)
-        with contextlib.suppress(FileNotFoundError):
-            os.remove(path + ".new")
-        make(path + ".new")
-        os.replace(path + ".new", path)
-        self.files.append(place)
+        self.prefix, self.known_as, self.libraries = prefix, known_as, libraries
+        self.files: dict[str, File | Link] = {}
 
     def write(self, place, data, mode=0o644):
         """A file of bytes."""
-
-        def make(path):
-            with open(path, "wb") as file:
-                file.write(data)
-            os.chmod(path, mode)
-
-        self.put(place, make)
+        self.files[place] = File(data, mode)
 
     def copy(self, place, source, mode=0o644):
         self.write(place, bytes_of(source), mode)
 
     def link(self, place, target):
-        self.put(place, lambda path: os.symlink(target, path))
+        self.files[place] = Link(target)
 
-    def finish(self):
-        """Takes away what an earlier install left and this one didn't, and writes the list of what is there."""
+    def path(self, place):
+        """The path of a place; the prefix itself is the one without a name."""
+        return os.path.join(self.prefix, place) if place else self.prefix
+
+    def folders(self):
+        """The folders that are needed, outer ones first."""
+        return dict.fromkeys(folder for place in (*self.files, LIST) for folder in above(place))
+
+    def missing(self):
+        """The folders that are needed and aren't there, outer ones first."""
+        return [folder for folder in self.folders() if not os.path.isdir(self.path(folder))]
+
+    def check(self, known, replaces):
+        """Refuses a prefix where a folder stands in the place of a file, or a file in that of a folder. Unless these are to be replaced,
+        it refuses files too that aren't among those that are known to be installed there."""
+        for folder in self.missing():
+            if os.path.lexists(self.path(folder)):
+                raise Refused(f"{self.path(folder)} is no folder, and one is needed in its place")
+        for place in (*self.files, LIST):
+            if os.path.isdir(self.path(place)) and not os.path.islink(self.path(place)):
+                raise Refused(f"{self.path(place)} is a folder, in the place of a file")
+        strange = [] if replaces else [self.path(place) for place in self.files if place not in known and self.is_strange(place)]
+        if strange:
+            more = f" and {len(strange) - NAMED} more" if len(strange) > NAMED else ""
+            named = ", ".join(strange[:NAMED])
+            raise Refused(f"files that no install has put there are in the way: {named}{more}; --replace replaces them")
+
+    def is_strange(self, place):
+        """Whether something else is in the place of a file."""
+        return os.path.lexists(self.path(place)) and not self.files[place].is_at(self.path(place))
+
+    def lay(self):
+        """Writes the files and makes their folders."""
+        for place, file in self.files.items():
+            os.makedirs(os.path.dirname(self.path(place)), exist_ok=True)
+            put(self.path(place), file.make)
+
+    def put_list(self, files, folders):
+        """Writes a list of what is under the prefix."""
+        lines = [*files, LIST, *(folder + "/" for folder in folders)]
+        os.makedirs(os.path.dirname(self.path(LIST)), exist_ok=True)
+        put(self.path(LIST), File("".join(line + "\n" for line in dict.fromkeys(lines)).encode(), 0o644).make)
+
+    def put_first_list(self, files, folders, made):
+        """Writes a list of what may be under the prefix until all is written: that of an earlier install too, and files that are being
+        written. Where that fails no folder stays that was made for it."""
+        ours = (*self.files, LIST)
+        try:
+            self.put_list([*files, *ours, *(place + NEW for place in ours)], folders)
+        except BaseException:
+            take_away(self.prefix, [], made)
+            raise
+
+    def install(self, replaces):
+        """Writes all, takes away what an earlier install left and this one didn't, and writes the list of what is there."""
         files, folders = listed(self.prefix)
+        self.check(set(files), replaces)
+        made = self.missing()
+        self.put_first_list(files, [*folders, *made], made)
+        self.lay()
         take_away(self.prefix, [place for place in files if place not in self.files], [])
-        self.write(LIST, b"")
-        lines = [*self.files, *(folder + "/" for folder in dict.fromkeys(folders + self.folders))]
-        self.write(LIST, "".join(line + "\n" for line in dict.fromkeys(lines)).encode())
+        self.put_list(self.files, [*folders, *made])
+
+
+def above(place):
+    """The folders that a place is in, outer ones first; the prefix is the one without a name."""
+    names = place.split("/")[:-1]
+    return ["/".join(names[:count]) for count in range(len(names) + 1)]
 
 
 def bytes_of(path):
@@ -59,11 +139,27 @@ def bytes_of(path):
         return file.read()
 
 
+def put(path, make):
+    """What `make` makes at a path, by another name first, so that a program that runs is replaced and not written over. Where it fails
+    nothing of it stays, and the fault names the path."""
+    with contextlib.suppress(FileNotFoundError):
+        os.remove(path + NEW)
+    try:
+        make(path + NEW)
+        os.replace(path + NEW, path)
+    except BaseException as fault:
+        with contextlib.suppress(FileNotFoundError):
+            os.remove(path + NEW)
+        if isinstance(fault, OSError):
+            fault.filename = path
+        raise
+
+
 def listed(prefix):
-    """The files that are installed under a prefix, and the folders that were made, outer ones first."""
+    """The files that are installed under a prefix, the list aside, and the folders that were made, outer ones first."""
     path = os.path.join(prefix, LIST)
-    lines = bytes_of(path).decode().splitlines() if os.path.exists(path) else []
-    return [line for line in lines if line[-1] != "/"], [line[:-1] for line in lines if line[-1] == "/"]
+    lines = bytes_of(path).decode().splitlines() if os.path.isfile(path) else []
+    return [line for line in lines if line[-1] != "/" and line != LIST], [line[:-1] for line in lines if line[-1] == "/"]
 
 
 def take_away(prefix, files, folders):
@@ -75,3 +171,12 @@ def take_away(prefix, files, folders):
         path = os.path.join(prefix, place)
         if os.path.isdir(path) and not os.listdir(path):
             os.rmdir(path)
+
+
+def take_compiled(prefix, folders):
+    """Takes away what Python has compiled of files in the folders of btx that were made."""
+    own = os.path.dirname(LIST)
+    for place in (folder for folder in folders if f"{folder}/".startswith(f"{own}/")):
+        path = os.path.join(prefix, place, COMPILED)
+        if os.path.isdir(path) and not os.path.islink(path):
+            shutil.rmtree(path)

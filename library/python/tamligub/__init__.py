@@ -19,6 +19,11 @@ Guten Tag
 The functions of the library are proved to say what the program says; this binding is only tested. It takes no locks: calls of several
 threads run at once, and a decoder stays on its thread.
 """
+import sys
+
+if sys.version_info < (3, 10):
+    raise ImportError("tamligub needs Python 3.10 or a later one, and this is %d.%d" % sys.version_info[:2])
+
 from .binding import Missing
 from .decoder import Decoder
 from .faults import BadScript, Closed, NoSnapshot, NotSeven, TooLong
