@@ -43,10 +43,10 @@ enum {
     TAMLIGUB_USAGE = 2,      /* no such word, or it takes something else than is given (but for 4), or no such number; no text */
     TAMLIGUB_BAD_SCRIPT = 3, /* a line of the script can't be read; the text says which */
     TAMLIGUB_UNREAD = 4,     /* NUMBER is given for a word that takes a page alone, or PAGE_AND_NUMBER for trace, edit or plot; no text */
-    TAMLIGUB_NO_ROOM = 5,    /* the text is longer than `room`: its front was written */
+    TAMLIGUB_NO_ROOM = 5,    /* the text is longer than `room`, also where 3, 7 or 8 would come behind it: its front was written */
     TAMLIGUB_NO_MEMORY = 6,  /* there is no memory for a screen or a script; never of `check`, `list`, `gen`, `seven`, `eight`; no text */
-    TAMLIGUB_TOO_LONG = 7,   /* the page has more than 2^24 bytes, or the script more than 2^20 */
-    TAMLIGUB_NOT_SEVEN = 8   /* `eight`: the page isn't in seven bits */
+    TAMLIGUB_TOO_LONG = 7,   /* the page has more than 2^24 bytes, or the script more than 2^20; the text is that of what came before */
+    TAMLIGUB_NOT_SEVEN = 8   /* `eight`: the page isn't in seven bits; the text is that of what came before */
 };
 
 /* Runs the program on a word and what is given after it, and answers the status.
@@ -60,8 +60,9 @@ enum {
  *
  * How much room is enough: 2904 bytes for `show`, which has 24 lines of 40 signs of three bytes at most; TAMLIGUB_ROOM_FOR_A_PAGE for
  * `write`, `edit` and `plot`; three times the page for `seven`, the page for `eight`; 140003 bytes for `gen`. Of the other words no bound
- * is told: `changes` writes 18 to 122 bytes for each byte of the pages of this project, and one byte of a page may change 960 places.
- * Where the answer is TAMLIGUB_NO_ROOM call again with twice as much room.
+ * is told: `changes` writes 14 to 122 bytes for each byte of the pages of this project, and one byte of a page may change 960 places.
+ * Where the answer is TAMLIGUB_NO_ROOM call again with twice as much room, and before that see to it that neither page nor script is too
+ * long, since the text up to that may take much room.
  *
  * No pointer may be null, not even where the length is 0. `out` and `put` may overlap neither each other nor anything else that is
  * handed in; word, page and script may. What is handed in is read during the call alone, and nothing is kept between calls. Several

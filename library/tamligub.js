@@ -303,9 +303,9 @@ class Decoder {
     }
 
     feed(bytes) {
-        let said = [];
+        const said = [];
         this.feedIn(bytes, () => {
-            said = said.concat(this.shared.notices());
+            for (const notice of this.shared.notices()) said.push(notice);
         });
         return said;
     }
@@ -385,7 +385,7 @@ class Decoder {
     // A decoder in the state that a snapshot has.
     static restored(host, snapshot) {
         bytesIn(snapshot);
-        const decoder = new Decoder(host), { shared } = decoder;
+        const decoder = new this(host), { shared } = decoder;
         while (shared.room < snapshot.length) shared.makeRoom();
         new Uint8Array(shared.wasm.memory.buffer).set(snapshot, shared.out);
         const status = decoder.call("tamligub_restore", BigInt(shared.out), BigInt(snapshot.length));

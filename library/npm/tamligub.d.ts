@@ -11,7 +11,8 @@ export interface Given {
 
 export interface Answer {
     /** 0 done, 1 refusals, 2 no such word or other things than it takes, 3 a bad line, 4 a number alone for a word of a page alone or page
-     * and number for a word of a page and a script, 5 no room, 6 no memory, 7 too long, 8 not seven. */
+     * and number for a word of a page and a script, 5 no room, 6 no memory, 7 too long, 8 not seven. At 7 and 8 the text is that of what
+     * came before. */
     readonly status: number;
     /** What the word writes: text in UTF-8, or a page. */
     readonly text: Uint8Array;
@@ -180,7 +181,9 @@ export class Decoder {
     constructor(host: WebAssembly.Module | WebAssembly.Instance);
     /** A decoder in the state that a snapshot has. What is shown already is told by `look` where flashing hadn't begun, else by `flashStart`.
      * A front of a snapshot, or a changed one, may be that of another state: keep its length and a checksum beside it. */
-    static restored(host: WebAssembly.Module | WebAssembly.Instance, snapshot: Uint8Array): Decoder;
+    static restored<D extends Decoder>(
+        this: new (host: WebAssembly.Module | WebAssembly.Instance) => D, host: WebAssembly.Module | WebAssembly.Instance, snapshot: Uint8Array,
+    ): D;
     /** Feeds bytes, and answers what their items change or refuse, in order. */
     feed(bytes: Uint8Array): Notice[];
     /** Feeds bytes, and tells nothing of them. */

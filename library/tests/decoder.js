@@ -107,6 +107,10 @@ function many(module, paths) {
     const late = [() => last.feed(Uint8Array.of(65)), () => last.skim(Uint8Array.of(65)), () => last.finish(), () => last.snapshot()];
     if (!late.every((call) => isThrown(call, "the page has ended"))) fail("a page that has ended goes on, or that isn't said");
     if (!isThrown(() => Decoder.restored(instance, all[0]))) fail("there is a snapshot that is none");
+    class Own extends Decoder {}
+    const own = Own.restored(instance, new Decoder(instance).snapshot());
+    if (!(own instanceof Own)) fail("a decoder of another class is restored");
+    own.close();
     const nowhere = [[0, 1], [1, 41], [257, 1], [1, 257], [1.5, 1], ["1", 1]];
     if (!nowhere.every((place) => isThrown(() => last.look(...place)))) fail("there is a place that isn't there");
     const wrong = [-1, 1.5, 2 ** 32, "1"];

@@ -121,12 +121,12 @@ def held(data: bytes | bytearray | memoryview, takes: str = "bytes, a bytearray 
 
 
 def held_text(text: str | bytes | bytearray | memoryview) -> bytes:
-    """A script, a drawing or a line, as bytes.
+    """A script, a drawing or a line, as bytes. Half a surrogate pair, which UTF-8 has no bytes for, becomes bytes that no line takes.
 
     >>> held_text("text AB")
     b'text AB'
     """
-    return text.encode() if isinstance(text, str) else held(text, "a str, bytes, a bytearray or a memoryview")
+    return text.encode("utf-8", "surrogatepass") if isinstance(text, str) else held(text, "a str, bytes, a bytearray or a memoryview")
 
 
 def address(data: bytes) -> int:

@@ -5,7 +5,7 @@ import ctypes
 import threading
 from operator import index
 from types import TracebackType
-from typing import Final, NoReturn, SupportsIndex
+from typing import Final, NoReturn, SupportsIndex, TypeVar
 
 from . import binding, words
 from .faults import BadScript, Closed, NoSnapshot, TooLong
@@ -16,20 +16,45 @@ from .records import Notices
 ROOM: Final = 2 * binding.ROOM_FOR_A_BYTE
 
 
-class Room(threading.local):
-    """What the decoders of a thread share: room for notices, and for numbers."""
+# A decoder, of the class that is asked for.
+Own = TypeVar("Own", bound="Decoder")
+
+
+class Room:
+    """Room for what a call writes, notices and numbers. It is given back where what was written is copied."""
 
     def __init__(self) -> None:
         self.list = ctypes.create_string_buffer(ROOM * binding.SIZE_OF_NOTICE)
         self.count = ctypes.c_uint64()
         self.reason = ctypes.c_uint32()
 
+    def __enter__(self) -> Room:
+        return self
+
+    def __exit__(self, kind: type[BaseException] | None, fault: BaseException | None, trace: TracebackType | None) -> None:
+        free.rooms.append(self)
+
     def records(self) -> bytes:
         """The records that the last call wrote."""
         return ctypes.string_at(self.list, self.count.value * binding.SIZE_OF_NOTICE)
 
 
-shared: Final = Room()
+class Free(threading.local):
+    """The rooms that the decoders of a thread share. A call that begins while another is made, as in a handler of signals, has its own."""
+
+    def __init__(self) -> None:
+        self.rooms: list[Room] = []
+
+
+free: Final = Free()
+
+
+def room() -> Room:
+    """A room that no other call has."""
+    try:
+        return free.rooms.pop()
+    except IndexError:
+        return Room()
 
 
 class Here(threading.local):
@@ -64,7 +89,8 @@ class Decoder:
         if self._calls.tamligub_open(self._handle) != binding.DONE:
             raise MemoryError("there is no memory for a decoder")
 
-    def __enter__(self) -> Decoder:
+    def __enter__(self: Own) -> Own:
+        self._own()
         return self
 
     def __exit__(self, kind: type[BaseException] | None, fault: BaseException | None, trace: TracebackType | None) -> None:
@@ -100,12 +126,13 @@ class Decoder:
         """
         handle, held = self._own(), binding.held(data)
         said, start, done = [], binding.address(held), 0
-        while done < len(held):
-            taken = self._calls.tamligub_feed(handle, start + done, len(held) - done, shared.list, ROOM, shared.count)
-            if not taken:
-                raise Closed("the page has ended") if self.state().ended else OverflowError("no page has more than 2^32 bytes")
-            said.append(shared.records())
-            done += taken
+        with room() as own:
+            while done < len(held):
+                taken = self._calls.tamligub_feed(handle, start + done, len(held) - done, own.list, ROOM, own.count)
+                if not taken:
+                    raise Closed("the page has ended") if self.state().ended else OverflowError("no page has more than 2^32 bytes")
+                said.append(own.records())
+                done += taken
         return Notices(b"".join(said))
 
     def finish(self) -> Notices:
@@ -125,17 +152,18 @@ class Decoder:
         (1, None, 0, 1)
         """
         handle, held = self._own(), binding.held_text(line)
-        start, count, reason = binding.address(held), shared.count, shared.reason
-        answer = self._calls.tamligub_line(handle, start, len(held), shared.list, ROOM, count, reason)
+        with room() as own:
+            answer = self._calls.tamligub_line(handle, binding.address(held), len(held), own.list, ROOM, own.count, own.reason)
+            reason, records = own.reason.value, own.records() if answer == binding.DONE else b""
         if answer == binding.BAD_LINE:
-            raise BadScript(1, reason.value, LINE_REASONS[reason.value - 1])
+            raise BadScript(1, reason, LINE_REASONS[reason - 1])
         if answer == binding.NO_MEMORY:
             raise MemoryError("there is no memory for an edit")
         if answer == binding.TOO_LONG:
             raise TooLong("the line is too long")
         if answer == binding.EARLY:
             raise Closed("the page has not ended")
-        return None if answer == binding.NO_LINE else Notices(shared.records())
+        return None if answer == binding.NO_LINE else Notices(records)
 
     def kept(self) -> int:
         """How many edits can be undone, 0 to 64."""
@@ -154,8 +182,9 @@ class Decoder:
         >>> str(colours.entries[1]), colours.dclut
         ('F00', (0, 1, 2, 3))
         """
-        self._calls.tamligub_colours(self._own(), shared.list)
-        return colours_of(ctypes.string_at(shared.list, binding.SIZE_OF_COLOURS))
+        with room() as own:
+            self._calls.tamligub_colours(self._own(), own.list)
+            return colours_of(ctypes.string_at(own.list, binding.SIZE_OF_COLOURS))
 
     def flash_start(self) -> Notices:
         """Begins the first of six phases of flashing over a blank display: a change for each place that isn't blank. Looks
@@ -169,9 +198,10 @@ class Decoder:
 
     def _noticed(self, name: str, fault: str) -> Notices:
         """What a call says that takes no bytes."""
-        if getattr(self._calls, name)(self._own(), shared.list, ROOM, shared.count) != binding.DONE:
-            raise Closed(fault)
-        return Notices(shared.records())
+        with room() as own:
+            if getattr(self._calls, name)(self._own(), own.list, ROOM, own.count) != binding.DONE:
+                raise Closed(fault)
+            return Notices(own.records())
 
     def look(self, row: int, column: int) -> Look:
         """How a place looks: row 1 to 24 from the top, column 1 to 40 from the left. IndexError where there is no such place, TypeError
@@ -183,8 +213,9 @@ class Decoder:
         handle, row, column = self._own(), index(row), index(column)
         if not (1 <= row <= ROWS and 1 <= column <= COLUMNS):
             raise IndexError(f"there is no row {row}, column {column}")
-        self._calls.tamligub_look(handle, row, column, shared.list)
-        return look_of(ctypes.string_at(ctypes.addressof(shared.list) + HEAD.size, binding.SIZE_OF_NOTICE - HEAD.size))
+        with room() as own:
+            self._calls.tamligub_look(handle, row, column, own.list)
+            return look_of(ctypes.string_at(ctypes.addressof(own.list) + HEAD.size, binding.SIZE_OF_NOTICE - HEAD.size))
 
     def screen(self) -> tuple[tuple[Look, ...], ...]:
         """The looks of all places: 24 rows of 40, also of those below a format of 20 rows.
@@ -212,8 +243,9 @@ class Decoder:
         >>> state.row, state.column, state.rows, state.sets
         (1, 1, 24, 'PMSN')
         """
-        self._calls.tamligub_state(self._own(), shared.list)
-        return state_of(ctypes.string_at(shared.list, binding.SIZE_OF_STATE))
+        with room() as own:
+            self._calls.tamligub_state(self._own(), own.list)
+            return state_of(ctypes.string_at(own.list, binding.SIZE_OF_STATE))
 
     def write(self) -> bytes:
         """The page as bytes, which bring it back: what the word `write` writes."""
@@ -226,20 +258,20 @@ class Decoder:
 
     def _written(self, name: str) -> bytes:
         """The bytes of a call that writes them, with as much room as they need."""
-        handle, room = self._own(), ctypes.sizeof(shared.list)
+        handle, most, count = self._own(), ROOM * binding.SIZE_OF_NOTICE, ctypes.c_uint64()
         while True:
-            out = ctypes.create_string_buffer(room)
-            status = getattr(self._calls, name)(handle, out, room, shared.count)
+            out = ctypes.create_string_buffer(most)
+            status = getattr(self._calls, name)(handle, out, most, count)
             if status == binding.DONE:
-                return ctypes.string_at(out, shared.count.value)
+                return ctypes.string_at(out, count.value)
             if status == binding.NO_MEMORY:
                 raise MemoryError("there is no memory for the bytes")
             if status != binding.NO_ROOM:
                 raise Closed("the page has ended")
-            room *= 4
+            most *= 4
 
     @classmethod
-    def restored(cls, snapshot: bytes | bytearray | memoryview) -> Decoder:
+    def restored(cls: type[Own], snapshot: bytes | bytearray | memoryview) -> Own:
         """A decoder in the state that a snapshot has. What is shown already is told by `look` and `screen` where flashing hadn't begun; where
         it had, `flash_start` tells it over a blank display, from the first phase on. `NoSnapshot` where the bytes are none.
 

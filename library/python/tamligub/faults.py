@@ -13,6 +13,10 @@ class BadScript(ValueError):
         super().__init__(f"line {line}: {name}")
         self.line, self.reason, self.name = line, reason, name
 
+    def __reduce__(self) -> tuple[type[BadScript], tuple[int, int, str]]:
+        # So that one process can hand it to another.
+        return type(self), (self.line, self.reason, self.name)
+
 
 class NotSeven(ValueError):
     """The page isn't in seven bits."""

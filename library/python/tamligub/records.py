@@ -48,6 +48,9 @@ class Notices(Sequence[Notice]):
     def __init__(self, records: bytes = b"") -> None:
         self.buffer: Final = records
 
+    def __reduce__(self) -> tuple[type[Notices], tuple[bytes]]:
+        return type(self), (self.buffer,)
+
     def __len__(self) -> int:
         return len(self.buffer) // SIZE_OF_NOTICE
 
