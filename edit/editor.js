@@ -1,6 +1,6 @@
 // Joins the parts: the sheet, the screen, writing, the tools, the script and what is kept.
 import { COLUMNS, PHASES, ROWS, Screen, TALL, lastGrid, paintStill, readFlash, readTrace, run, unicodeOf } from "./shared.js";
-import { setLanguage, word } from "./words.js";
+import { TABLES, setLanguage, word } from "./words.js";
 import { AskFault } from "./faults.js";
 import { Asker } from "./ask.js";
 import { Sheet } from "./sheet.js";
@@ -15,7 +15,7 @@ import { ScriptPane } from "./script.js";
 import { Cuts } from "./cuts.js";
 import { Listing } from "./listing.js";
 import { Keep, savedOf } from "./keep.js";
-import { isBegun } from "./store.js";
+import { chosenLanguage, isBegun } from "./store.js";
 
 const PHASE_TIME = 1000 / PHASES;
 const PAUSE = 250;
@@ -639,7 +639,7 @@ function joinControls(editor) {
   joinUndo(editor, "redo");
   on("help", "click", () => part("help-part").showModal());
   on("help-close", "click", () => part("help-part").close());
-  on("language", "change", () => editor.speak(part("language").value));
+  on("language", "change", () => editor.speak(chosenLanguage(part("language").value) || part("language").value));
   on("flash", "change", () => {
     editor.paint();
     editor.rest();
@@ -672,7 +672,8 @@ function joinControls(editor) {
 async function begin() {
   const letters = part("module").textContent;
   const module = await WebAssembly.compile(Uint8Array.from(atob(letters), (sign) => sign.charCodeAt(0)));
-  const language = (navigator.language || "de").startsWith("de") ? "de" : "en";
+  const last = chosenLanguage();
+  const language = last && TABLES[last] ? last : (navigator.language || "de").startsWith("de") ? "de" : "en";
   setLanguage(language);
   const editor = new Editor(module, run);
   part("language").value = language;

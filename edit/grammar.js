@@ -41,6 +41,18 @@ export const GRAMMAR = {
 };
 
 /**
+ * The first word of a text that isn't in a comment; empty where there is none.
+ * @param {string} text
+ */
+const firstWord = (text) => (/^[ \t]*([^# \t\n][^ \t\n]*)/m.exec(text) || ["", ""])[1];
+
+/**
+ * Whether a text is lines of a drawing, as its first word says.
+ * @param {string} text
+ */
+export const isDrawing = (text) => GRAMMAR.drawing.has(firstWord(text));
+
+/**
  * How many letters are put in, left out, changed or swapped with their neighbour to come from one word to the other.
  * @param {string} one
  * @param {string} other

@@ -3,6 +3,7 @@ import { TABLES, word } from "./words.js";
 import { STATUS } from "./statuses.js";
 import { textOf } from "./ask.js";
 import { AskFault, NotUtf8 } from "./faults.js";
+import { isDrawing } from "./grammar.js";
 import { Store, isBegun, toLetters } from "./store.js";
 import { part } from "./controls.js";
 
@@ -25,14 +26,29 @@ const IS_DRAWING = /\.drawing$/i;
 const TURNS = 6;
 
 /**
- * Which of some files is a script, which a drawing, and which a page, as all are that are neither; the rest isn't opened.
- * @template {{ name: string }} F
+ * A file that is opened: what it is, and its text where it is no page.
+ * @typedef {{ name: string, kind: "page" | "script" | "drawing", text: string, file: File }} Opened
+ */
+
+/**
+ * What a file is by its name; one that is named as a script is a drawing where its first word is one of drawings.
+ * @param {string} name
+ * @param {string} text
+ */
+export function kindOfFile(name, text) {
+  if (IS_DRAWING.test(name)) return "drawing";
+  if (!IS_SCRIPT.test(name)) return "page";
+  return isDrawing(text) ? "drawing" : "script";
+}
+
+/**
+ * The first script, page and drawing of some files; the rest isn't opened.
+ * @template {{ kind: string }} F
  * @param {F[]} files
  * @returns {{ script: F | undefined, page: F | undefined, drawing: F | undefined, rest: F[] }}
  */
 export function sortedFiles(files) {
-  const [script, drawing] = [IS_SCRIPT, IS_DRAWING].map((kind) => files.find(({ name }) => kind.test(name)));
-  const page = files.find(({ name }) => !IS_SCRIPT.test(name) && !IS_DRAWING.test(name));
+  const [script, page, drawing] = ["script", "page", "drawing"].map((kind) => files.find((file) => file.kind === kind));
   return { script, page, drawing, rest: files.filter((file) => ![script, page, drawing].includes(file)) };
 }
 
@@ -47,15 +63,27 @@ export function remarksOn(page, rest) {
 }
 
 /**
- * The text that bytes are in UTF-8, or null where they are none.
- * @param {ArrayBuffer} bytes
+ * The text of a file that is in UTF-8.
+ * @param {File} file
  */
-function utf8In(bytes) {
+async function textIn(file) {
+  const bytes = await file.arrayBuffer();
   try {
-    return new TextDecoder("utf-8", { fatal: true }).decode(bytes);
+    return new TextDecoder("utf-8", { fatal: true }).decode(bytes).replace(/\r\n?/g, "\n");
   } catch {
-    return null;
+    throw new NotUtf8(word("notUtf8", { name: file.name }));
   }
+}
+
+/**
+ * A file with what it is.
+ * @param {File} file
+ * @returns {Promise<Opened>}
+ */
+async function opened(file) {
+  const { name } = file;
+  const text = kindOfFile(name, "") === "page" ? "" : await textIn(file);
+  return { name, kind: kindOfFile(name, text), text, file };
 }
 
 /**
@@ -247,21 +275,16 @@ export class Keep {
    * @param {Iterable<File>} list
    */
   async open(list) {
-    const { script, page, drawing, rest } = sortedFiles([...list]);
-    const [named, name] = [page || script, (page || script || drawing || { name: "" }).name];
-    const remarks = remarksOn(page ? page.name : null, rest.map((file) => file.name));
-    if (named && !(await this.mayLeave())) return;
-    /** @type {(file: File) => Promise<string>} */
-    const textIn = async (file) => {
-      const found = utf8In(await file.arrayBuffer());
-      if (found === null) throw new NotUtf8(word("notUtf8", { name: file.name }));
-      return found.replace(/\r\n?/g, "\n");
-    };
+    const files = [...list];
+    let name = files.length ? files[0].name : "";
     try {
-      const bytes = page ? new Uint8Array(await page.arrayBuffer()) : this.needs.sheet.page;
-      const [text, figures] = [script ? await textIn(script) : "", drawing ? await textIn(drawing) : ""];
-      if (named) this.take(savedOf(page ? page.name : this.name || name, bytes, text));
-      if (figures) this.tell({ kind: "figures", text: figures });
+      const { script, page, drawing, rest } = sortedFiles(await Promise.all(files.map(opened)));
+      name = (page || script || drawing || { name }).name;
+      const remarks = remarksOn(page ? page.name : null, rest.map((file) => file.name));
+      const bytes = page ? new Uint8Array(await page.file.arrayBuffer()) : this.needs.sheet.page;
+      if ((page || script) && !(await this.mayLeave())) return;
+      if (page || script) this.take(savedOf(page ? page.name : this.name || name, bytes, script ? script.text : ""));
+      if (drawing) this.tell({ kind: "figures", text: drawing.text });
       if (remarks) this.say(remarks);
     } catch (fault) {
       this.say(fault instanceof NotUtf8 ? fault.message : this.endOf(fault, name), true);

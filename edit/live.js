@@ -119,9 +119,9 @@ export class Live {
   // Where the next sign would be written, the set and the table in force, and format, area and modes; an area of rows 0 is none.
   state() {
     const state = this.decoder.state();
-    const { rows, first, last, implicit, revision, protect } = state;
+    const { rows, wrap, first, last, implicit, revision, protect } = state;
     const [set, table] = [state.c1 ? "parallel" : "serial", `table ${state.table}`];
-    return { at: cellOf(state), set, table, rows, first, last, implicit, revision, protect };
+    return { at: cellOf(state), set, table, rows, wrap, first, last, implicit, revision, protect };
   }
 
   /**

@@ -17,7 +17,7 @@ export { Screen, TALL, paintStill } from "../view/screen.js";
  *   kept: () => number, undone: () => number, look: (row: number, column: number) => Notice, close: () => void,
  *   state: () => {
  *     row: number, column: number, c1: number, table: number, first: number, last: number, implicit: number, revision: number, protect: number,
- *     rows: number, g: number[], left: number, single: number, accent: number,
+ *     rows: number, wrap: number, g: number[], left: number, single: number, accent: number,
  *   },
  *   colours: () => { entries: Notice["fore"][] },
  * }} OneDecoder

@@ -2,6 +2,8 @@
 
 // The names in the storage: of each editor that is open its page and its script.
 const STORE = /^tamligub\.editor\.(\w+)\.script$/;
+// The language, as the viewer keeps it too.
+const LANGUAGE = "tamligub-language";
 /** @type {(editor: string) => string} */
 const pageName = (editor) => `tamligub.editor.${editor}.page`;
 /** @type {(editor: string) => string} */
@@ -17,6 +19,19 @@ const scriptName = (editor) => `tamligub.editor.${editor}.script`;
  * that was saved of another stored page; and what isn't in the script yet.
  * @typedef {{ name: string, page: Uint8Array, cuts: import("./cuts.js").Stored[], script: string, saved: string, isOther: boolean } & UnderWay} Kept
  */
+
+/**
+ * The language that was chosen last, or is chosen now; null where the browser keeps none.
+ * @param {string} [chosen]
+ */
+export function chosenLanguage(chosen) {
+  try {
+    if (chosen) localStorage.setItem(LANGUAGE, chosen);
+    return localStorage.getItem(LANGUAGE);
+  } catch {
+    return null;
+  }
+}
 
 /**
  * Whether something is drawn or painted that isn't in the script yet.

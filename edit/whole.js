@@ -39,7 +39,13 @@ export class Whole {
      * @type {HTMLInputElement[]}
      */
     this.ends = [];
-    this.rows = "";
+    /**
+     * The choices of the format: how many rows, and whether a row goes on in the next.
+     * @type {HTMLSelectElement[]}
+     */
+    this.formats = [];
+    this.areaInForce = "";
+    this.formatInForce = "";
     const attributes = [this.attributes("rowPart", "row"), this.attributes("screenPart", "screen")];
     part("sheet").append(...attributes, inLine(this.area(), this.format(), this.revision()), this.writing());
   }
@@ -99,6 +105,7 @@ export class Whole {
   format() {
     const rows = choice("formatPart", [["24", "rows24"], ["20", "rows20"]], () => {});
     const wrap = choice("formatPart", [["wrap", "wrap"], ["noWrap", "noWrap"]], () => {});
+    this.formats = [rows, wrap];
     const set = () => this.act([formatLine(Number(rows.value), wrap.value === "wrap")]);
     return group("formatPart", rows, wrap, button("apply", set, { name: "formatHint", "data-apply": "format" }));
   }
@@ -117,12 +124,15 @@ export class Whole {
       marks("repeat", () => `repeat ${times.value}`), times, marks("protect", () => "protect"), marks("unprotect", () => "unprotect"));
   }
 
-  // Shows the area that is there, once it is another, and which of the modes are in force.
+  // Shows area and format that are there, once they are others, and which of the modes are in force.
   show() {
-    const { first, last, implicit, revision, protect } = this.needs.sheet.live.state();
-    const rows = [first, last].join();
-    if (first && rows !== this.rows) this.ends.forEach((field, at) => { field.value = String(at ? last : first); });
-    this.rows = rows;
+    const { rows, wrap, first, last, implicit, revision, protect } = this.needs.sheet.live.state();
+    const area = [first, last].join();
+    if (first && area !== this.areaInForce) this.ends.forEach((field, at) => { field.value = String(at ? last : first); });
+    this.areaInForce = area;
+    const formats = [String(rows), wrap ? "wrap" : "noWrap"];
+    if (formats.join() !== this.formatInForce) this.formats.forEach((select, at) => { select.value = formats[at]; });
+    this.formatInForce = formats.join();
     const modes = { implicit: implicit === 1, explicit: implicit === 0, revision1: revision === 1, revision2: revision === 2,
       protect: protect === 1, unprotect: protect === 0 };
     for (const [key, is] of Object.entries(modes)) part("sheet").querySelector(`[data-word=${key}]`).setAttribute("aria-pressed", String(is));

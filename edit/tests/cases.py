@@ -433,6 +433,9 @@ def serial_attributes_are_markers(hand):
     hand.is_true()
 
 
+FORMATS = """[...document.querySelectorAll('#sheet select[data-name="formatPart"]')].map((one) => one.value)"""
+
+
 def rows_screen_area_format_and_colours_are_lines(hand):
     hand.fresh()
     still(hand)
@@ -506,6 +509,13 @@ def rows_screen_area_format_and_colours_are_lines(hand):
     hand.choose('#sheet select[data-name="formatPart"]', "20", 0)
     hand.click('[data-apply="format"]')
     assert hand.lines()[-1] == "raw 1F2D4270", hand.lines()
+    # The format in force is shown, also of a page that is opened.
+    hand.choose('#sheet select[data-name="formatPart"]', "noWrap", 1)
+    hand.click('[data-apply="format"]')
+    assert hand.lines()[-1] == "raw 1F2D4271", hand.lines()
+    hand.key("z", held=CONTROL)
+    hand.settle()
+    assert hand.tab.value(FORMATS) == ["20", "wrap"], hand.tab.value(FORMATS)
     hand.click('#sheet [data-word="clear"]')
     assert hand.lines()[-1] == "clear", hand.lines()
 
@@ -1040,7 +1050,7 @@ def a_drawing_is_asked_about_and_outlasts_a_crash(hand):
     still(hand)
     assert lines and hand.tab.value("Tamligub.part('drawing').value") == lines and hand.looks() == shown, "the drawing is lost by a crash"
     assert not hand.tab.value("Tamligub.part('draw').hidden"), "it isn't seen that something is drawn"
-    hand.choose("#language", "de")
+    assert hand.tab.value("document.documentElement.lang + Tamligub.part('language').value") == "dede", "another language than the one chosen"
     data = hand.kept("#keep-page")[1]
     assert data == hand.edited() and hand.looks_of(hand.written("drawn.btx", data)) == shown, "the drawing isn't in the page"
     assert not hand.text("name").endswith("●") and hand.text("note") == "seite.btx ist gesichert.", hand.text("note")
@@ -1053,7 +1063,14 @@ def a_drawing_is_asked_about_and_outlasts_a_crash(hand):
         hand.fill("#drawing", f"plot 9 {selector.count('p')}\n")
         hand.kept(selector)
         assert hand.lines()[-1].startswith("raw 1F2F44") and hand.tab.value("Tamligub.part('drawing').value") == "", f"{selector} keeps no drawing"
+    # While a line of the script is wrong nothing drawn becomes lines: script and picture are kept without it, which is said.
+    script = hand.script()
+    hand.write_script(script + "textt x\n")
     hand.fill("#drawing", "plot 3 3\n")
+    for selector in ("#keep-script", "#keep-picture"):
+        hand.kept(selector)
+        assert "aber ohne" in hand.text("note"), (selector, hand.text("note"), hand.text("fault"))
+    hand.write_script(script)
     hand.click('#draw [data-word="drawDrop"]')
     hand.kept("#keep-page")
     assert hand.tab.value(IS_LEFT), "what was thrown away is asked about"
@@ -1170,8 +1187,19 @@ def what_is_not_opened_is_told(hand):
 
 
 def a_drawing_is_opened(hand):
-    """It goes into the field of the tab Draw, behind what is drawn there; kept, the page shows what `plot` makes of it."""
+    """It goes into the field of the tab Draw, behind what is drawn there; kept, the page shows what `plot` makes of it. So does one that is named
+    as a script, by its first word."""
     drawing = os.path.join(PAGES, "weather.drawing")
+    opens_a_drawing(hand, drawing)
+    opens_a_drawing(hand, hand.written("weather.txt", b"# clouds\n" + read(drawing)))
+    # A page, a script and a drawing that is named as one, at once and in any order.
+    named = hand.written("box.txt", b"box 0 0 9 9\n")
+    hand.fresh(named, hand.written("own.txt", b"at 3 3\ntext X\n"), page("boat"))
+    assert hand.lines() == ["at 3 3", "text X"] and hand.tab.value("Tamligub.part('drawing').value") == "box 0 0 9 9", hand.text("note")
+    assert hand.text("name") == "boat.btx ●", hand.text("name")
+
+
+def opens_a_drawing(hand, drawing):
     lines = [line for line in read(drawing).decode().split("\n") if line]
     hand.fresh(page("weather"))
     hand.tab_of("draw")

@@ -2,7 +2,7 @@
 import assert from "node:assert";
 import { test } from "node:test";
 import { asked, asker, sheetOf } from "./program.js";
-import { GRAMMAR, nearest, whyBad, wrongIn } from "../grammar.js";
+import { GRAMMAR, isDrawing, nearest, whyBad, wrongIn } from "../grammar.js";
 import { word } from "../words.js";
 
 const GOOD = [
@@ -52,4 +52,10 @@ asked("the program refuses the same lines for these reasons", () => {
 asked("of bytes the items are told that the program refuses", () => {
   const items = ["01", "1C"].map((item) => word("badItem", { item, number: 1, name: "UnassignedControl" }));
   assert.strictEqual(whyBad({ name: "BadBytes" }, "raw 41011C", "script", (page) => asker().check(page)), items.join("; "));
+});
+
+test("a text is a drawing by its first word", () => {
+  const drawings = ["box 1 1 2 2", "# at 1 1\n\n \tplot 1 1\nat 1 1", "  # x\nwipe"];
+  const others = ["", "# plot 1 1", "at 1 1\nplot 1 1", "text plot", "plots 1 1", "plot# 1 1"];
+  assert.deepStrictEqual([...drawings, ...others].map(isDrawing), [...drawings.map(() => true), ...others.map(() => false)]);
 });

@@ -2,7 +2,7 @@
 import assert from "node:assert";
 import { test } from "node:test";
 import "./scripts.js";
-import { documentOf, remarksOn, sortedFiles, withEnding } from "../keep.js";
+import { documentOf, kindOfFile, remarksOn, sortedFiles, withEnding } from "../keep.js";
 import { PALETTES } from "../mosaic.js";
 import { TABLES, word } from "../words.js";
 
@@ -17,13 +17,15 @@ test("a word has values in the places of their names", () => {
   assert.strictEqual(word("where", { row: 3, column: 5 }), "Zeile 3, Spalte 5");
 });
 
-test("a file is a script by its name, and another is the page", () => {
-  const [page, script] = [{ name: "boat.btx" }, { name: "boat.TXT" }];
+test("a file is a page, a script or a drawing by its name, or by its first word", () => {
+  const names = [["boat.btx", ""], ["README.md", "plot 1 1"], ["boat.TXT", "at 1 1"], ["a.script", ""], ["a.drawing", "at 1 1"], ["a.txt", "plot 1 1"]];
+  assert.deepStrictEqual(names.map(([name, text]) => kindOfFile(name, text)), ["page", "page", "script", "script", "drawing", "drawing"]);
+  const [page, script] = [{ kind: "page" }, { kind: "script" }];
   assert.deepStrictEqual(sortedFiles([script, page]), { script, page, drawing: undefined, rest: [] });
   assert.deepStrictEqual(sortedFiles([page]), { script: undefined, page, drawing: undefined, rest: [] });
   assert.deepStrictEqual(sortedFiles([script]), { script, page: undefined, drawing: undefined, rest: [] });
   assert.deepStrictEqual(sortedFiles([]), { script: undefined, page: undefined, drawing: undefined, rest: [] });
-  const [other, drawing] = [{ name: "house.btx" }, { name: "boat.drawing" }];
+  const [other, drawing] = [{ kind: "page" }, { kind: "drawing" }];
   assert.deepStrictEqual(sortedFiles([drawing, page, script, other, script]), { script, page, drawing, rest: [other] });
   assert.deepStrictEqual([withEnding("boat.btx", ".png"), withEnding("a.b.script", ".txt"), withEnding("boat", "")], ["boat.png", "a.b.txt", "boat"]);
 });
