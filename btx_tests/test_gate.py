@@ -1,5 +1,6 @@
 """The gate's own parts: what it says of what passes, fails, isn't run and is left out."""
 import contextlib
+import glob
 import importlib.machinery
 import importlib.util
 import io
@@ -59,8 +60,16 @@ class Gate(stand.Case):
         all_parts = [part("low", "echo no"), part("high", "echo yes", "low")]
         self.assertEqual(self.said(*parts.named_of(all_parts, ["high"]))[0].splitlines()[:2], ["== high: passed, N s", "yes"])
         self.assertEqual(parts.named_of(all_parts, []), all_parts)
+        shared = [part("high", "echo yes"), part("high", "echo too"), part("low", "echo no")]
+        self.assertEqual(parts.named_of(shared, ["high"]), shared[:2])
         with self.assertRaisesRegex(SystemExit, "^other: no such part; these are there: low high$"):
             parts.named_of(all_parts, ["low", "other"])
+
+    def test_the_shares_of_the_tests_of_btx_are_all_of_them(self):
+        tests, shares = program_of("../btx_tests/run"), parts.SHARES
+        dealt = [name for one in range(1, shares + 1) for name in tests.share_of(f"{one}/{shares}")]
+        names = glob.glob(os.path.join(stand.ROOT, "btx_tests", "test_*.py"))
+        self.assertEqual(sorted(dealt), sorted(os.path.basename(name).removesuffix(".py") for name in names))
 
     def test_each_part_has_a_folder_of_its_own(self):
         said, good = self.said(part("a", "echo $TMPDIR; echo x > $TMPDIR/x"), part("b", "echo $TMPDIR; [ ! -e $TMPDIR/x ]"))
