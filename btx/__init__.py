@@ -1,10 +1,14 @@
 """A command for people over the proved program. Nothing here is proved, and nothing here decodes: what is shown is what the
 program says."""
+import re
 import sys
 
+# The bytes of a name that are no UTF-8, as Python keeps them.
+UNDECODED = re.compile("[\udc80-\udcff]")
 VERSION = "0.1"
 
 
 def say(text: object) -> None:
     """A line for who waits, apart from the output."""
-    print(f"btx: {text}", file=sys.stderr, flush=True)
+    line = UNDECODED.sub(lambda found: f"\\x{ord(found[0]) - 0xdc00:02x}", f"btx: {text}")
+    print(line, file=sys.stderr, flush=True)

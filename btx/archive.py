@@ -48,6 +48,10 @@ def is_inside(path: str, folder: str) -> bool:
 def fault_of(options: argparse.Namespace) -> Fault | None:
     """Why an archive can't be begun with these words, and the status of that; None where it can."""
     out, folder = options.output, options.folder
+    if not out or not folder:
+        return Status.USAGE, f"the name of the {'website' if folder else 'collection'} is empty"
+    if os.path.exists(out) and not os.path.isdir(out):
+        return Status.USAGE, f"{html_file.shown_name(out)} is no folder, and the website needs one"
     if options.jobs_by != "parallel" and (options.sshlogin or options.remote):
         return Status.USAGE, f"{'--sshlogin' if options.sshlogin else '--remote'} is for --jobs-by parallel"
     if is_inside(out, folder):
@@ -61,7 +65,7 @@ def fault_of(options: argparse.Namespace) -> Fault | None:
 
 def known(site: website.Website, here: collection.Collection, name: str) -> making.Facts | None:
     """The facts of a page that is made already of the very bytes that it has, or None."""
-    facts = None if site.lacks_picture(name) else site.facts(name)
+    facts = None if site.lacks(name) else site.facts(name)
     try:
         return facts if facts and making.sum_of(making.stored(here.path(name))) == facts.sha256 else None
     except making.Unread:
@@ -78,7 +82,7 @@ def painter() -> ModuleType | None:
 
 
 def no_longer(facts: making.Facts, why: str) -> making.Facts:
-    return dataclasses.replace(facts, meaning=f"{facts.meaning}; {why}", screen=None)
+    return dataclasses.replace(facts, meaning=f"{facts.meaning}; {why}")
 
 
 class Archive:
@@ -132,13 +136,16 @@ class Archive:
         self.write_lists()
         return len(lacking)
 
-    def told(self, lacking: int) -> None:
+    def told(self) -> None:
         """Says what was made, and what wasn't taken."""
         pages = [facts for name, facts in self.facts.items() if name not in self.here.unread]
         refused = sum(facts.status == Status.REFUSALS for facts in pages)
-        unread = sum(not facts.is_read() for facts in pages) - lacking
+        unmade = sum(facts.status == Status.NO_ROOM for facts in pages)
+        unread = sum(not facts.is_read() for facts in pages) - unmade
         index = html_file.shown_name(os.path.join(self.options.output, "index.html"))
-        print(f"{len(pages):,} pages, {refused:,} with refused items, {unread:,} not read; {self.there:,} were there: {index}")
+        counts = f"{refused:,} with refused items, {unread:,} not read" + (f", {unmade:,} not made" if unmade else "")
+        there = f"{self.there:,} {'was' if self.there == 1 else 'were'} there"
+        print(f"{collection.several(len(pages), 'page')}, {counts}; {there}: {index}")
         folders, same = len(self.here.unread), len(lists.alike(self.facts))
         kept = "kept" if self.options.keep else "removed"
         notes = [
@@ -163,7 +170,7 @@ def run(path: program.Runner, options: argparse.Namespace) -> int:
     files.write_utf8()
     archive = Archive(options, here)
     lacking = archive.make(path)
-    archive.told(lacking)
+    archive.told()
     if lacking:
         say(f"{lacking:,} pages were not made; the same command goes on with them")
     return Status.NO_ROOM if lacking else 0

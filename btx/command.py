@@ -35,7 +35,9 @@ BY_THEMSELVES = ("viewer", "editor", "line", "cut", "host", "completion")
 EPILOG = """The words of the program pass through with its output and its status; what a status means is said on standard error.
 btx PAGE shows a page as terminal does, btx help WORD describes a word, and a file that is named - is standard input.
 {btx} and {cept_tool} say more. BTX_PROGRAM can name another program, and TAMLIGUB_LIBRARY another library."""
-EXPLAINED = "The lines that it writes and its statuses are explained by: {cept_tool}"
+# What a man page explains of a word: of those with a script or a drawing that is typed, of those that write a page, and of the others.
+TYPED = "How a {kind} is typed is explained by: {btx}; its lines and the statuses by: {cept_tool}"
+OF_PAGES, OF_TEXTS = "Its statuses are explained by: {cept_tool}", "The lines that it writes and its statuses are explained by: {cept_tool}"
 
 
 class Help(argparse.HelpFormatter):
@@ -47,10 +49,16 @@ class Help(argparse.HelpFormatter):
         )
 
 
+def explained(word: str, manuals: dict[str, str]) -> str:
+    """Which man pages explain a word of the program."""
+    kind = "drawing" if word == "plot" else "script"
+    form = TYPED if word in program.SCRIPTED else OF_PAGES if word in program.WRITING else OF_TEXTS
+    return form.format(kind=kind, **manuals)
+
+
 def parsers() -> argparse.ArgumentParser:
     """The parser of all words; each word's own has its help."""
     manuals = {name: program.manual(name) for name in ("btx", program.NAME)}
-    explained = EXPLAINED.format(**manuals)
     parser = argparse.ArgumentParser(
         prog="btx", description="Shows, checks and edits stored Bildschirmtext pages.", epilog=EPILOG.format(**manuals), allow_abbrev=False,
         formatter_class=Help,
@@ -63,7 +71,8 @@ def parsers() -> argparse.ArgumentParser:
         module.arguments(one)
     for word, (wanted, writes) in program.WORDS.items():
         usage = messages.usage(word).partition(": ")[2]
-        one = words.add_parser(word, help=writes, description=f"Writes {writes}.", usage=usage, epilog=explained, formatter_class=Help)
+        told = explained(word, manuals)
+        one = words.add_parser(word, help=writes, description=f"Writes {writes}.", usage=usage, epilog=told, formatter_class=Help)
         for name in wanted.split(" "):
             one.add_argument(name)
         one.add_argument("-o", "--output", metavar="FILE", help="where to write it, once it is whole; without this to standard output")

@@ -145,6 +145,8 @@ def made(options: argparse.Namespace) -> list[bytes]:
 
 def run(_: object, options: argparse.Namespace) -> int:
     live.library()
+    if not options.all and not os.path.exists(options.recording + recording.TIMES) and os.path.exists(options.recording):
+        raise OSError(0, f"it has no times beside it, {os.path.basename(options.recording)}{recording.TIMES}; --all does without", options.recording)
     pages, folder = made(options), options.output
     os.makedirs(folder, exist_ok=True)
     if any(name.endswith(".btx") for name in os.listdir(folder)):

@@ -9,6 +9,9 @@ PAGE = re.compile(r"0*(\d+)([b-z]?)\.btx")
 MOST_SIGNS = 16
 # The keys that begin and end a request, and ASCII's signs for them.
 BEGIN, END = b"\x13*", b"\x1c#"
+# What a key of a sign sends: bytes of the primary set, and of a letter with an accent this and the accent before it.
+ACCENT = 0x19
+SIGN = re.compile(rb"(?:\x19[\x40-\x4f])?[\x20-\x7e]")
 # A page begins as on a decoder that was just opened, under the parallel set.
 AT_FIRST = b"\x1f\x2f\x42"
 # A line at the foot: a break of the service at row 24, whose end brings all back; the row is blank first.
@@ -20,9 +23,9 @@ def written(text: str) -> bytes:
     return b"".join(letters.bytes_of(sign) or b"" for sign in letters.signs_in(text))
 
 
-def foot(text: str) -> bytes:
-    """What shows a text in the last row, and leaves all else."""
-    return FOOT + written(text) + BACK
+def foot(data: bytes) -> bytes:
+    """What shows bytes in the last row, and leaves all else."""
+    return FOOT + data + BACK
 
 
 class Pages:
@@ -58,7 +61,9 @@ class Guest:
 
     def __init__(self, pages: Pages) -> None:
         self.pages, self.number, self.part = pages, pages.first() or "", ""
-        self.typed: str | None = None
+        self.typed: bytes | None = None
+        # What is left of a request that was refused is dropped, to the key that ends it.
+        self.is_refused = False
 
     def shown(self) -> bytes:
         """The bytes of the page that is shown."""
@@ -68,17 +73,18 @@ class Guest:
         """Takes a byte, and answers what is sent for it, and whether that is a page."""
         sign = bytes([byte])
         if sign in END:
-            return self.asked()
+            was_refused, self.is_refused = self.is_refused, False
+            return (b"", False) if was_refused else self.asked()
         if sign in BEGIN:
-            self.typed = ""
-        elif self.typed is None or not sign.isdigit():
+            self.typed, self.is_refused = b"", False
+        elif self.typed is None or not (0x20 <= byte <= 0x7E or byte == ACCENT):
             return b"", False
-        elif len(self.typed) == MOST_SIGNS:
-            self.typed = None
-            return foot(f"Mehr als {MOST_SIGNS} Zeichen, more than {MOST_SIGNS} signs"), False
         else:
-            self.typed += sign.decode("ascii")
-        return foot("*" + self.typed), False
+            self.typed += sign
+        if len(SIGN.findall(self.typed)) > MOST_SIGNS:
+            self.typed, self.is_refused = None, True
+            return foot(written(f"Mehr als {MOST_SIGNS} Zeichen, more than {MOST_SIGNS} signs")), False
+        return foot(b"*" + self.typed), False
 
     def asked(self) -> tuple[bytes, bool]:
         """Answers a request that is whole: a number, or the next part of what is shown."""
@@ -86,8 +92,9 @@ class Guest:
         if typed is None:
             wanted = self.number, chr(ord(self.part or "a") + 1)
         else:
-            wanted = typed.lstrip("0") or typed and (self.pages.first() or ""), ""
+            number = typed.decode("ascii")
+            wanted = number.lstrip("0") or number and (self.pages.first() or ""), ""
         if wanted not in self.pages.names:
-            return foot(f"{'#' if typed is None else f'*{typed}#'}: keine Seite, no page"), False
+            return foot((b"#" if typed is None else b"*" + typed + b"#") + written(": keine Seite, no page")), False
         self.number, self.part = wanted
         return self.shown(), True

@@ -20,6 +20,8 @@ DATA = '<script type="application/json" id="pages">[]</script>'
 # Each phase of the flash once, and back to the first; and the beginning of a line of one of these turns.
 TURNS = "6"
 TURNED = re.compile("^[1-9]", re.MULTILINE)
+# In a name: control characters, bytes that are no UTF-8, and a backslash that would be read as the first sign of an escape.
+UNSHOWN = re.compile(r"[\x00-\x1f\x7f-\x9f\udc80-\udcff]|\\(?=x[0-9a-fA-F]{2})")
 # What the viewer needs of a page.
 Page = dict[str, Any]
 
@@ -36,9 +38,14 @@ def names_of(paths: Sequence[str]) -> list[str]:
     return [shown_name(file if files.count(file) == 1 else path) for file, path in zip(files, paths)]
 
 
+def escaped(found: re.Match[str]) -> str:
+    return "".join(f"\\x{byte:02x}" for byte in found[0].encode("utf-8", "surrogateescape"))
+
+
 def shown_name(name: str) -> str:
-    """A file's name as text that can be written; bytes that are no UTF-8 are escaped."""
-    return os.fsencode(name).decode("utf-8", "backslashreplace")
+    """A file's name as text that can be written, another for each name: bytes that are no UTF-8 and control characters are escaped by their
+    numbers, and so is a backslash that would be read as an escape."""
+    return UNSHOWN.sub(escaped, os.fsencode(name).decode("utf-8", "surrogateescape"))
 
 
 def page_of(path: program.Runner, name: str, page: str, timed: bool = False) -> Page:

@@ -27,6 +27,8 @@ EVER = float("inf")
 def line_name(text: str) -> wire.Name:
     try:
         return wire.Name(text)
+    except wire.OtherSpeed as fault:
+        raise argparse.ArgumentTypeError(f"{fault} isn't a speed of serial lines; these are: {' '.join(map(str, wire.SPEEDS))}") from None
     except ValueError:
         raise argparse.ArgumentTypeError(f"{text} is no line: {NAMES}") from None
 
@@ -199,7 +201,7 @@ class Session:
     def pass_on(self, now: float) -> None:
         """Does what is due."""
         if now >= self.timers.answer:
-            raise End(STALLED, f"nothing came for {self.patience:g} seconds, {self.bytes_so_far()}")
+            raise End(STALLED, f"nothing came for {self.patience:g} {'second' if self.patience == 1 else 'seconds'}, {self.bytes_so_far()}")
         if now >= self.timers.phase:
             self.timers.phase = now + PHASE if self.shown.flashing else EVER
             self.show(self.shown.turn())

@@ -7,6 +7,7 @@ import io
 import json
 import os
 import shutil
+import threading
 import urllib.parse
 from collections.abc import Iterator
 from html import escape
@@ -27,6 +28,8 @@ FOLDERS = (*KINDS, "viewer", "entries", "words", "walk")
 LONGEST = 255 - len(".json.part")
 # A page may have a name under which no file of an archive can stand.
 NO_NAMES = (errno.ENAMETOOLONG, errno.EISDIR, errno.ENOTDIR, errno.EEXIST)
+# Pages are made by several threads: none takes an empty folder away in which another begins a file.
+BEGINNING = threading.Lock()
 POLICY = "default-src 'none'; img-src blob: data:; style-src 'self'; script-src 'self'"
 # The decoder's module, for pages that are decoded in the browser; no other page asks for it.
 MODULE, COMPILES = "module.js", f" 'wasm-unsafe-eval'; {viewer.WORKER}"
@@ -42,12 +45,23 @@ def part_of(name: str) -> str:
     return hashlib.sha256(os.fsencode(name)).hexdigest()[:2]
 
 
+def is_there(path: str) -> bool:
+    """Whether something stands in a file."""
+    return os.path.isfile(path) and os.path.getsize(path) > 0
+
+
 def write_bytes(path: str, data: bytes) -> None:
     """A file, whole or not at all."""
-    os.makedirs(os.path.dirname(path), exist_ok=True)
-    with open(path + ".part", "wb") as file:
-        file.write(data)
-    os.replace(path + ".part", path)
+    with BEGINNING:
+        os.makedirs(os.path.dirname(path), exist_ok=True)
+        part = open(path + ".part", "wb")
+    try:
+        with part as file:
+            file.write(data)
+        os.replace(path + ".part", path)
+    except OSError:
+        os.unlink(path + ".part")
+        raise
 
 
 def write(path: str, text: str) -> None:
@@ -128,16 +142,17 @@ class Website:
             return None
         return facts if facts.passed_over is not None or not facts.is_read() else None
 
-    def lacks_picture(self, name: str) -> bool:
-        """Whether a page has no picture that could be made."""
-        return self.image is not None and not os.path.isfile(self.path("pictures", name))
+    def lacks(self, name: str) -> bool:
+        """Whether a page lacks one of its files, or has an empty one; a picture only where one could be made."""
+        kinds = [kind for kind in KINDS if kind != "pictures" or self.image is not None]
+        return not all(is_there(self.path(kind, name)) for kind in kinds)
 
     def remove_kind(self, kind: str, name: str) -> None:
         """Takes away one of the files of a page, and folders that are empty without it."""
         path = self.path(kind, name)
         with contextlib.suppress(FileNotFoundError, NotADirectoryError, IsADirectoryError):
             os.remove(path)
-        with contextlib.suppress(OSError):
+        with BEGINNING, contextlib.suppress(OSError):
             os.removedirs(os.path.dirname(path))
 
     def remove(self, name: str) -> None:

@@ -16,6 +16,14 @@ MOST_PORT = 65535
 ANSWERS_IN = 20
 
 
+# The speeds that the system's terminals know, in bits a second; 0 would hang up.
+SPEEDS = sorted(int(name[1:]) for name in dir(termios) if re.fullmatch("B[1-9][0-9]*", name))
+
+
+class OtherSpeed(ValueError):
+    """A serial line is named with a speed that the system doesn't know; the text is the speed."""
+
+
 class Line(Protocol):
     """A line that is open."""
 
@@ -40,7 +48,9 @@ class Name:
     def __init__(self, text: str) -> None:
         self.text = text
         self.serial, self.host = SERIAL.fullmatch(text), HOST.fullmatch(text)
-        if text != files.STANDARD and not (self.serial and hasattr(termios, f"B{self.serial[2]}")) and not self.is_host():
+        if self.serial and self.serial[2] not in map(str, SPEEDS):
+            raise OtherSpeed(self.serial[2])
+        if text != files.STANDARD and not self.serial and not self.is_host():
             raise ValueError(text)
 
     def is_host(self) -> bool:

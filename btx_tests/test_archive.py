@@ -1,5 +1,6 @@
 """Archives: each page with the viewer, the index, the report, going on after a stop, and over GNU parallel."""
 import base64
+import concurrent.futures
 import contextlib
 import hashlib
 import json
@@ -21,6 +22,7 @@ import stand
 
 import looks as second_reading
 from btx import lists, looks, making, website
+from btx.statuses import Status
 
 NAMES = "[...document.querySelectorAll('#tiles .name')].map((one) => one.textContent)"
 
@@ -107,7 +109,7 @@ class Archive(archives.Case):
         self.assertEqual((done.stderr, self.pictures()), (b"", ["boat.btx.png", "title.btx.png"]))
         self.assertIn(b"; 2 were there", self.archive().stdout)
         shutil.copy(stand.page("house"), os.path.join(self.source, "boat.btx"))
-        self.assertIn(b"; 1 were there", self.archive(env=self.without_pillow()).stdout)
+        self.assertIn(b"; 1 was there", self.archive(env=self.without_pillow()).stdout)
         self.assertEqual(self.pictures(), ["title.btx.png"])
 
     def test_each_page_has_its_viewer_and_its_line(self):
@@ -141,6 +143,22 @@ class Archive(archives.Case):
             self.assertEqual(self.report()["title.btx"]["sha256"], hashlib.sha256(file.read()).hexdigest())
         self.archive("--again")
         self.assertGreater(os.path.getmtime(made), 1)
+
+    def test_a_page_that_lacks_a_file_is_made_again(self):
+        self.small("title", "boat")
+        self.archive()
+        kinds = ["made", "pages", "pictures"] if stand.absent.has_library("PIL") else ["made", "pages"]
+        for kind in kinds:
+            path = os.path.join(self.out, kind, "boat.btx" + website.KINDS[kind])
+            with open(path, "rb") as file:
+                whole = file.read()
+            os.remove(path)
+            self.assertIn(b"2 pages, 0 with refused items, 0 not read; 1 was there", self.archive().stdout)
+            os.truncate(path, 0)
+            self.assertIn(b"; 1 was there", self.archive().stdout)
+            with open(path, "rb") as file:
+                self.assertEqual(file.read(), whole)
+        self.assertIn(b"; 2 were there", self.archive().stdout)
 
     def test_two_runs_a_page_that_tell_of_the_same_bytes(self):
         environment, runs = self.counted(f"cp {stand.page('house')} {self.source}/title.btx")
@@ -231,6 +249,19 @@ class Archive(archives.Case):
         with open(path, "rb") as file:
             return file.read().count(b"\n")
 
+    def test_pages_that_are_taken_away_leave_others_their_folder(self):
+        os.makedirs(os.path.join(self.out, "viewer"))
+        site, parts = website.Website(self.out), {"deflated": "", "check": "", "page": "", "cells": ""}
+
+        def change(name):
+            for _ in range(150):
+                site.add(name, making.Facts(1, Status.DONE, "read"), parts)
+                site.add(name, making.ended(2**24 + 1, Status.TOO_LONG), None)
+
+        with concurrent.futures.ThreadPoolExecutor(3) as pool:
+            self.assertEqual(list(pool.map(change, ("folder/a.btx", "folder/b.btx", "folder/c.btx"))), [None] * 3)
+        self.assertEqual(os.listdir(self.out), ["viewer"])
+
     def test_the_progress_is_told_on_a_terminal(self):
         master, slave = os.openpty()
         run = stand.begun("archive", self.source, "-o", self.out, "--jobs", "1", stderr=slave, env=stand.environment(TERM="xterm"))
@@ -268,6 +299,7 @@ class Archive(archives.Case):
         self.needs("parallel")
         done = self.archive("--jobs-by", "parallel", "--remote", "false", status=5)
         self.assertIn(b"18 pages were not made", done.stderr)
+        self.assertIn(b"18 pages, 0 with refused items, 0 not read, 18 not made; 0 were there", done.stdout)
 
     def over_ssh(self, *words, **more):
         """An archive over two logins of this machine."""
@@ -362,6 +394,10 @@ class Index(stand.Case):
         tiles = "[...document.querySelectorAll('#tiles li')].map((tile) => [...tile.querySelectorAll('span')].map((one) => one.textContent))"
         why, lost = "this folder can't be read: permission denied", ["can't be read: no such file", "lost.btx", "status 4"]
         self.assertEqual(self.tab.value(tiles)[1:], [[why, "deep/"], lost])
+        self.choose("language", "de")
+        german = [["dieser Ordner ist nicht lesbar: keine Berechtigung", "deep/"], ["nicht lesbar: keine solche Datei", "lost.btx", "Status 4"]]
+        self.tab.until(f"JSON.stringify({tiles}.slice(1)) === {json.dumps(json.dumps(german, separators=(',', ':')))}")
+        self.choose("language", "en")
         for choice, said in (("all", "2 of 2 pages, folders not read: 1"), ("unread", "1 of 2 pages, folders not read: 1"), ("whole", "1 of 2 pages")):
             self.choose("filter", choice)
             self.tab.until(f"document.getElementById('count').textContent === {json.dumps(said)}")

@@ -156,6 +156,13 @@ class Taken(archives.Case):
         page = os.path.join(os.fsencode(self.out), b"pages", NO_UTF_8 + b".html")
         self.assertEqual(data_in(page, "pages")[0]["name"], SHOWN)
 
+    def test_no_two_names_are_listed_alike(self):
+        self.add(NO_UTF_8, SHOWN, "a\nb.btx", "a\\nb.btx", "c\x85\x1b.btx")
+        self.archive()
+        listed = [SHOWN, "stra\\x5cxdfe.btx", "a\\x0ab.btx", "a\\nb.btx", "c\\xc2\\x85\\x1b.btx"]
+        self.assertEqual(sorted(self.report()), sorted(listed))
+        self.assertEqual(sorted(entry[0] for entry in entries_in(self.out)), sorted(listed))
+
     def test_a_website_whose_name_is_no_utf_8(self):
         self.add("a.btx")
         self.out = os.path.join(os.fsencode(self.folder), b"\xff")
@@ -165,8 +172,9 @@ class Taken(archives.Case):
         self.add("x.btx", "a.btx")
         os.makedirs(os.path.join(self.source, "x.btx.html"))
         self.add("x.btx.html/y.btx", "z" * 250 + ".btx")
-        self.archive()
+        self.assertIn(b"4 pages, 0 with refused items, 0 not read, 2 not made", self.archive().stdout)
         report = self.report()
+        self.assertEqual([name for _, _, names in os.walk(self.out) for name in names if name.endswith(".part")], [])
         self.assertEqual(report["a.btx"]["status"], "0")
         self.assertEqual(sorted(row["status"] for row in report.values()), ["0", "0", "5", "5"])
 

@@ -12,6 +12,8 @@ import time
 import lines
 import stand
 
+from btx import guest as guests
+
 # Full defaults with the parallel set, as docs/PROFILE.md has them: as on a decoder that was just opened.
 AT_FIRST = b"\x1f\x2f\x42"
 GUESTS, REQUESTS = 50, (b"*2#", b"#", b"*0#", b"\x132\x1c")
@@ -121,6 +123,29 @@ class Requests(HostCase):
             cells = lines.cells_of(self.written("came", guest.came))
             self.assertEqual({place: look for place, look in cells.items() if place[0] < 24},
                              {place: look for place, look in before.items() if place[0] < 24})
+
+    def test_signs_that_are_no_digits_ask_for_no_page(self):
+        one = guests.Guest(guests.Pages(self.path("pages")))
+        for typed in (b"1x2", b"2b", b" 1", b"\x19Hau", b"1\x19"):
+            *_, (said, is_page) = [one.take(byte) for byte in b"*" + typed + b"#"]
+            self.assertEqual((said, is_page), (guests.FOOT + b"*" + typed + b"#: keine Seite, no page" + guests.BACK, False))
+        # Sixteen letters with accents are sixteen signs.
+        *_, (said, is_page) = [one.take(byte) for byte in b"*" + 16 * b"\x19Ha" + b"#"]
+        self.assertIn(b"keine Seite", said)
+
+    def test_what_is_left_of_a_refused_request_is_dropped(self):
+        one = guests.Guest(guests.Pages(self.path("pages")))
+
+        def sent(typed):
+            return [one.take(byte)[0] for byte in typed]
+
+        for rest in (b"8#", b"\x1c"):
+            *digits, refused = sent(b"*12345678901234567")
+            self.assertIn(b"16 Zeichen", refused)
+            self.assertEqual(sent(rest), [b""] * len(rest))
+            self.assertIn(b"keine Seite", sent(b"#")[0])
+        sent(b"*12345678901234567")
+        self.assertIn(b"*99#: keine Seite", sent(b"*99#")[-1])
 
     def test_nothing_else_is_answered(self):
         _, port = self.host("--bits", "0")

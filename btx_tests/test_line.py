@@ -150,8 +150,9 @@ class Words(lines.Case):
         self.ends(["serial:nowhere:1200"], 4, "btx: line: serial:nowhere:1200: no such file or directory\n", cwd=self.folder)
 
     def test_what_is_no_line(self):
-        for words in ("host", "host:", "host:70000", "serial:/dev/null", "serial:/dev/null:1201", ""):
+        for words in ("host", "host:", "host:70000", "serial:/dev/null", "serial:/dev/null:fast", ""):
             self.ends([words], 2, "is no line: HOST:PORT, serial:DEVICE:BITS")
+        self.ends(["serial:/dev/null:1201"], 2, "1201 isn't a speed of serial lines; these are: 50 75 ")
         self.ends(["serial:/dev/null:1200"], 4, "inappropriate ioctl")
 
     def test_a_line_that_ends(self):

@@ -24,8 +24,8 @@ class ReadingList(stand.Case):
         with open(os.path.join(stand.ROOT, "README.md"), encoding="utf-8") as file:
             text = " ".join(file.read().split())
         for words, found in (
-            ((), r"order to read, (\d+) of ([\d,]+) lines"), (("changes",), r"for `changes` (\d+) of ([\d,]+) lines"),
-            (("--covered",), r"--covered` lists, (\d+) of ([\d,]+) lines"),
+            ((), r"order to read: (\d+) definitions, ([\d,]+) lines"), (("changes",), r"for `changes` (\d+) with ([\d,]+) lines"),
+            (("--covered",), r"--covered` lists, (\d+) definitions of ([\d,]+) lines"),
         ):
             told = re.search(found, text)
             self.assertEqual((int(told[1]), int(told[2].replace(",", ""))), listed(*words)[1], words)

@@ -207,7 +207,7 @@ class Cut(lines.Case):
     def test_what_cannot_be_cut(self):
         path = self.written("kept", b"\x0cA")
         done = stand.btx("cut", path, "-o", self.path("pages"))
-        self.assertEqual((done.returncode, done.stderr), (4, f"btx: cut: {path}.times: no such file or directory\n".encode()))
+        self.assertEqual((done.returncode, done.stderr), (4, f"btx: cut: {path}: it has no times beside it, kept.times; --all does without\n".encode()))
         self.assertEqual(stand.btx("cut", path, "--all", "-o", self.path("pages")).returncode, 0)
         done = stand.btx("cut", path, "--all", "-o", self.path("pages"))
         self.assertEqual((done.returncode, done.stderr), (4, f"btx: cut: {self.path('pages')}: there are pages in it already\n".encode()))

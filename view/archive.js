@@ -1,6 +1,7 @@
 // The index of an archive: entries that are searched, filtered and sorted, folders, and small pictures that are asked for as they come
 // into sight. What is chosen stands in the address.
 import { grouped, joinLanguages, kept, onLanguage, title, word } from "./language.js";
+import { meaningIn } from "./meanings.js";
 
 /**
  * What is shown of a page, and of all pages: how many there are, and for each its status, bytes, refused items, and the number of the first
@@ -122,13 +123,16 @@ function picture(address) {
 }
 
 /** @param {Entry} entry */
+const meaning = (entry) => meaningIn(entry.meaning, document.documentElement.lang);
+
+/** @param {Entry} entry */
 function factsOf(entry) {
   const facts = [];
   if (entry.bytes !== null) facts.push(word("bytes", { bytes: grouped(entry.bytes) }));
   if (isRead(entry.status)) facts.push(word("items", { refused: grouped(entry.refused), items: grouped(entry.items) }));
   facts.push(word("status", { status: entry.status }));
   if (entry.alike && entry.alike !== entry.name) facts.push(word("same", { name: entry.alike }));
-  const note = isRead(entry.status) ? entry.meaning.split("; ")[1] : "";
+  const note = isRead(entry.status) ? meaning(entry).split("; ")[1] : "";
   return (note ? [...facts, note] : facts).join(", ");
 }
 
@@ -141,7 +145,7 @@ function tile(number) {
     holder.href = `pages/${entry.address}.html`;
     holder.append(picture(entry.address));
   } else {
-    holder.append(make("span", "unread", word("notRead", { why: entry.meaning })));
+    holder.append(make("span", "unread", meaning(entry)));
   }
   if (entry.title) holder.append(make("span", "title", entry.title));
   holder.append(make("span", "name", entry.name));

@@ -7,7 +7,7 @@ const GERMAN = {
   by: "nach", byName: "Name", byBytes: "Größe, größte zuerst", byRefused: "abgewiesenen Elementen, meiste zuerst",
   folders: "Ordner", allFolders: "alle Ordner", count: "{some} von {all} Seiten", unreadFolders: "nicht gelesene Ordner: {some}",
   bytes: "{bytes} Bytes", status: "Status {status}",
-  items: "{refused} von {items} Elementen abgewiesen", same: "Bildschirm wie {name}", notRead: "nicht gelesen: {why}",
+  items: "{refused} von {items} Elementen abgewiesen", same: "Bildschirm wie {name}",
   noneFound: "Keine Seite hat all das.", before: "vorige Seite", after: "nächste Seite", walk: "Zu anderen Seiten",
   // The viewer: screen and course.
   viewer: "Tamligub: eine Seite, wie sie entsteht", noPage: "Keine Seite ist geöffnet.", reading: "Die Seite wird gelesen …",
@@ -71,7 +71,7 @@ const ENGLISH = {
   by: "by", byName: "name", byBytes: "size, largest first", byRefused: "refused items, most first",
   folders: "Folders", allFolders: "all folders", count: "{some} of {all} pages", unreadFolders: "folders not read: {some}",
   bytes: "{bytes} bytes", status: "status {status}",
-  items: "{refused} of {items} items refused", same: "screen as {name}", notRead: "{why}",
+  items: "{refused} of {items} items refused", same: "screen as {name}",
   noneFound: "No page has all of that.", before: "page before", after: "next page", walk: "To other pages",
   viewer: "Tamligub: a page being built", noPage: "No page is open.", reading: "The page is being read …", pages: "Pages", screen: "Screen",
   screenName: "24 rows of 40 cells. The arrow keys point at a cell; the text of the page stands below.", place: "Bytes",
