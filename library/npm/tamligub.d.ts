@@ -11,10 +11,9 @@ export interface Given {
 
 export interface Answer {
     /** 0 done, 1 refusals, 2 no such word or other things than it takes, 3 a bad line, 4 a number alone for a word of a page alone or page
-     * and number for a word of a page and a script, 5 no room, 6 no memory, 7 too long, 8 not seven. At 7 and 8 the text is that of what
-     * came before. */
+     * and number for a word of a page and a script, 5 no room, 6 no memory, 7 too long, 8 not seven. */
     readonly status: number;
-    /** What the word writes: text in UTF-8, or a page. */
+    /** What the word writes: text in UTF-8, or a page; at 7 and 8 what was written before. */
     readonly text: Uint8Array;
 }
 
