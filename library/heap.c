@@ -1,6 +1,7 @@
 /* The heap of the module for the web, in the place of malloc. Eight sizes of blocks lie between a power of two and the next one, and a
  * block that is given back waits in the list of its size until the next of that size is asked for. So of each size there are never more
- * blocks than were in use at once, in whatever order they come and go. The block that lies last grows, and is given back, where it is.
+ * blocks than were in use at once, in whatever order they come and go. The block that lies last grows where it is, unless one of the size
+ * that it needs waits, and is given back where it is.
  * The heap has no memory but what it grew itself: what the host grew, before the first block or later, is the host's. What the three
  * functions must do is the contract of the kit's heap (rattle/libc/src/heap.rt). It exports nothing: an export would make a table of
  * functions. */
@@ -112,7 +113,7 @@ Tried rattle_realloc(u64 at, u64 kept, u64 n, u64 align)
     Head *head = head_of(at);
     if (n <= head->size)
         return (Tried){1, at};
-    if (at + head->size == end && n <= 1ULL << MOST_BITS && reaches(at + size_of(n))) {
+    if (at + head->size == end && n <= 1ULL << MOST_BITS && *list_of(size_of(n)) == 0 && reaches(at + size_of(n))) {
         head->size = size_of(n);
         end = at + head->size;
         return (Tried){1, at};

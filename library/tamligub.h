@@ -38,7 +38,7 @@ enum {
 
 /* How a call ends. */
 enum {
-    TAMLIGUB_DONE = 0,       /* the page was read to its end, and nothing in it is refused */
+    TAMLIGUB_DONE = 0,       /* the page was read to its end, and nothing in it is refused; of `seven` and `eight` whatever is */
     TAMLIGUB_REFUSALS = 1,   /* the page was read to its end, and something in it is refused; the text is whole */
     TAMLIGUB_USAGE = 2,      /* no such word, or it takes something else than is given (but for 4), or no such number; no text */
     TAMLIGUB_BAD_SCRIPT = 3, /* a line of the script can't be read; the text says which */
@@ -85,12 +85,13 @@ uint32_t tamligub_run(const uint8_t *word, size_t word_length, uint32_t given, u
  * - No pointer is null, not even where the length is 0, and none leads into what another one leads to.
  * - What lists, records, texts and numbers hold before a call writes to them doesn't matter: memory as malloc gives it will do, and no
  *   answer depends on it. What stands behind the notices or bytes that are written stays as it is.
- * - The room for notices is that for a byte, or for a phase of flashing, or more. Where it is less nothing is done.
+ * - The room for notices is that for a byte, for a phase of flashing or for a line, or more. Where it is less nothing is done.
  * - Each call needs up to 280 KB of the stack of its thread, under a limit of the address space as of tamligub_run.
  *
- * A decoder takes all its memory by malloc when it is opened, 247 KB; after that only tamligub_write and tamligub_snapshot take
- * some, and give it back, and the first edit takes about 2.3 MB, which are given back when the decoder is closed.
- * Where a call answers 1 no more was done than that `notices` is 0, and `reason`, where it takes one.
+ * A decoder takes all its memory by malloc when it is opened, 247 KB; after that only tamligub_write and tamligub_snapshot take some,
+ * and give it back, and the first edit takes about 2.3 MB, which are given back when the decoder is closed.
+ * Where a call answers 1 no more was done than that `notices`, `put` and `reason` are 0, of those that it takes; but tamligub_restore has
+ * closed the decoder that was open.
  *
  * At the start the display is blank: each of the 24 rows of 40 places has no sign (kind 0), white (15, 15, 15) on black (0, 0, 0), steady.
  * Neither tamligub_open nor the first bytes tell this: a place is told once an item changes it, so clear the display to it before.
@@ -185,7 +186,8 @@ typedef struct {
     uint8_t dclut[4];
 } tamligub_colour_entries;
 
-/* Opens a decoder before the first byte; one that is open is closed first. Answers 0, or 6 where there is no memory: none is open then. */
+/* Opens a decoder before the first byte; one that is open is closed, and its memory given back at the end of the call. Answers 0, or 6 where
+ * there is no memory: none is open then. */
 uint32_t tamligub_open(tamligub_decoder *decoder);
 
 /* Feeds bytes, as long as `list` has room for as many more notices as one byte may need. Writes the notices at the front of `list`, which
@@ -238,11 +240,12 @@ uint32_t tamligub_write(tamligub_decoder *decoder, uint8_t *out, size_t room, ui
  * ended; 5 where there is no room for all of them; 6 where there is no memory. In the last three cases `put` is 0 and `out` stays. */
 uint32_t tamligub_snapshot(tamligub_decoder *decoder, uint8_t *out, size_t room, uint64_t *put);
 
-/* Opens a decoder in the state that a snapshot has; one that is open is closed first. From then on it says what the one would have said of
- * which the snapshot was taken. Nothing is said of what is shown already: tamligub_look tells it where flashing hadn't begun; where it had,
- * blank the display and call tamligub_flash_start, which tells all of it from the first phase on. A front of a snapshot, or a changed one,
- * may be that of another state: keep its length and a checksum beside it. Answers 0; 1 where the bytes are no snapshot; 6 where there is no
- * memory. In the last two cases none is open. */
+/* Opens a decoder in the state that a snapshot has; one that is open is closed, and its memory given back at the end of the call, which
+ * meanwhile takes as many bytes as the snapshot has. From then on it says what the one would have said of which the snapshot was taken.
+ * Nothing is said of what is shown already: tamligub_look tells it where flashing hadn't begun; where it had, blank the display and call
+ * tamligub_flash_start, which tells all of it from the first phase on. A front of a snapshot, or a changed one, may be that of another
+ * state: keep its length and a checksum beside it. Answers 0; 1 where the bytes are no snapshot; 6 where there is no memory. In the last two
+ * cases none is open. */
 uint32_t tamligub_restore(tamligub_decoder *decoder, const uint8_t *bytes, size_t length);
 
 /* What flashes looks otherwise from one of six phases to the next, as under the word `flash`; when they come is for the host to say. The

@@ -69,8 +69,26 @@ function partsOf(word, { page, script }) {
     return [new TextEncoder().encode(word), page === undefined ? none : bytesIn(page), script === undefined ? none : textIn(script)];
 }
 
+// What an engine does that gives memory; one that has none left throws a RangeError.
+function givenMemory(act, what) {
+    try {
+        return act();
+    } catch (fault) {
+        throw fault instanceof RangeError ? new NoMemory(`there is no memory for ${what}`) : fault;
+    }
+}
+
+function instanceOf(module) {
+    return givenMemory(() => new WebAssembly.Instance(module), "an instance of the module");
+}
+
+// More pages of memory; answers where they begin.
+function grown(memory, size) {
+    return givenMemory(() => memory.grow(Math.ceil(size / PAGE_OF_MEMORY)), "bytes of that number") * PAGE_OF_MEMORY;
+}
+
 function call(module, word, things, room) {
-    const { memory, tamligub_run } = new WebAssembly.Instance(module).exports;
+    const { memory, tamligub_run } = instanceOf(module).exports;
     const parts = partsOf(word, things);
     const sizes = [8, ...parts.map((part) => part.length), room];
     const starts = [];
@@ -79,7 +97,7 @@ function call(module, word, things, room) {
         starts.push(end);
         end += Math.ceil((size + 1) / 16) * 16;
     }
-    memory.grow(Math.ceil((end - memory.buffer.byteLength) / PAGE_OF_MEMORY));
+    grown(memory, end - memory.buffer.byteLength);
     parts.forEach((part, at) => new Uint8Array(memory.buffer).set(part, starts[at + 1]));
     const [put, first, page, script, out] = starts.map(BigInt);
     const [size, pageSize, scriptSize] = parts.map((part) => BigInt(part.length));
@@ -88,11 +106,21 @@ function call(module, word, things, room) {
     return { status, text: new Uint8Array(memory.buffer, starts[4], Math.min(length, room)).slice() };
 }
 
+// Where there is no memory for what is handed in and out, the answer is that of a program without memory.
+function answerOf(module, word, things, room) {
+    try {
+        return call(module, word, things, room);
+    } catch (fault) {
+        if (!(fault instanceof NoMemory)) throw fault;
+        return { status: NO_MEMORY, text: new Uint8Array() };
+    }
+}
+
 function run(module, word, things = {}) {
     const { number = 0 } = things;
     if (!isWithin(number, MOST_NUMBER)) throw new RangeError(`${number} is no number from 0 to ${MOST_NUMBER}`);
     for (let room = 1 << 20; ; room *= 4) {
-        const answer = call(module, word, things, room);
+        const answer = answerOf(module, word, things, room);
         if (answer.status !== NO_ROOM || room >= MOST_ROOM) return answer;
     }
 }
@@ -217,7 +245,7 @@ class Shared {
 
     // Memory of the host's own: the heap of the module keeps away from it.
     grown(size) {
-        return this.wasm.memory.grow(Math.ceil(size / PAGE_OF_MEMORY)) * PAGE_OF_MEMORY;
+        return grown(this.wasm.memory, size);
     }
 
     handle() {
@@ -266,7 +294,7 @@ function sharedOf(instance) {
 
 class Decoder {
     constructor(host) {
-        this.shared = sharedOf(host instanceof WebAssembly.Instance ? host : new WebAssembly.Instance(host));
+        this.shared = sharedOf(host instanceof WebAssembly.Instance ? host : instanceOf(host));
         this.handle = this.shared.handle();
         if (this.call("tamligub_open") !== 0) {
             this.close();

@@ -203,7 +203,7 @@ export class Decoder {
     colours(): Colours;
     /** The page as bytes, which bring it back. */
     write(): Uint8Array;
-    /** All of the state as bytes, those under way included. */
+    /** All of the state as bytes, those under way included; `Closed` is thrown where the page has ended. */
     snapshot(): Uint8Array;
     /** The places seen at the start of flashing, over a blank display, and those that the next of six phases changes. Their looks are steady
      * ones, as they are seen in the phase. */

@@ -8,7 +8,7 @@
 const fs = require("fs");
 const path = require("path");
 const vm = require("vm");
-const { run, Decoder } = require(path.join(__dirname, "..", "tamligub.js"));
+const { run, Decoder, NoMemory } = require(path.join(__dirname, "..", "tamligub.js"));
 const { drawing, line, changes, cells, flashing } = require(path.join(__dirname, "notices.js"));
 
 function fail(what) {
@@ -85,6 +85,24 @@ function sayWhatTheyTake(module, decoder) {
     }
 }
 
+// Where the engine gives no more memory it is said as where the module has none.
+function sayWithoutMemory(module) {
+    const { grow } = WebAssembly.Memory.prototype;
+    WebAssembly.Memory.prototype.grow = () => {
+        throw new RangeError("there are no more pages");
+    };
+    try {
+        const { status, text } = run(module, "show", { page: Uint8Array.of(65) });
+        if (status !== 6 || text.length !== 0) fail(`without memory show ends with ${status}`);
+        new Decoder(module);
+        fail("a decoder is opened without memory");
+    } catch (fault) {
+        if (!(fault instanceof NoMemory)) fail(`without memory ${fault} is thrown`);
+    } finally {
+        WebAssembly.Memory.prototype.grow = grow;
+    }
+}
+
 function many(module, paths) {
     const instance = new WebAssembly.Instance(module), { memory } = instance.exports, draw = drawing(7);
     const all = paths.map((name) => new Uint8Array(fs.readFileSync(name)));
@@ -103,6 +121,7 @@ function many(module, paths) {
     if (memory.buffer.byteLength !== taken) fail(`the memory grew from ${taken} to ${memory.buffer.byteLength} bytes`);
     const last = new Decoder(instance);
     sayWhatTheyTake(module, last);
+    sayWithoutMemory(module);
     last.finish();
     const late = [() => last.feed(Uint8Array.of(65)), () => last.skim(Uint8Array.of(65)), () => last.finish(), () => last.snapshot()];
     if (!late.every((call) => isThrown(call, "the page has ended"))) fail("a page that has ended goes on, or that isn't said");

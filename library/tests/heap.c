@@ -212,6 +212,27 @@ static void last_block(void)
     rattle_dealloc(first.at);
 }
 
+/* The last block grows again and again before another one is taken behind it, and goes first: no more blocks wait than were in use. No
+ * block that was given back before is taken here. */
+static void grown_blocks(void)
+{
+    uint64_t taken = 0;
+    memset(waiting, 0, sizeof waiting);
+    for (unsigned round = 0; round < 100; round++) {
+        Tried first = rattle_alloc(4096, 8);
+        first = rattle_realloc(first.at, 4096, 1 << 20, 8);
+        Tried other = rattle_alloc(4096, 8);
+        if (!first.ok || !other.ok)
+            fail("a block isn't given", round);
+        rattle_dealloc(first.at);
+        rattle_dealloc(other.at);
+        if (round == 1)
+            taken = pages;
+        else if (round > 1 && pages != taken)
+            fail("growing takes more and more memory", pages - taken);
+    }
+}
+
 int main(int words, char **word)
 {
     if (words != 3)
@@ -226,6 +247,7 @@ int main(int words, char **word)
     random_blocks(strtoull(word[2], NULL, 10));
     decoders();
     last_block();
+    grown_blocks();
     holds(base, 16 * 65536, 0x5A, "the module's memory was written to");
     return 0;
 }

@@ -22,7 +22,12 @@ threads run at once, and a decoder stays on its thread.
 import sys
 
 if sys.version_info < (3, 10):
-    raise ImportError("tamligub needs Python 3.10 or a later one, and this is %d.%d" % sys.version_info[:2])
+    TOO_OLD = "tamligub needs Python 3.10 or a later one, and this is %d.%d" % sys.version_info[:2]
+    # This is the first word while Python looks for what -m is to run: there a person asks, and reads the sentence alone, as of btx.
+    if sys.argv[:1] == ["-m"]:
+        sys.stderr.write(TOO_OLD + "\n")
+        sys.exit(127)
+    raise ImportError(TOO_OLD)
 
 from .binding import Missing
 from .decoder import Decoder

@@ -23,7 +23,7 @@ class NotSeven(ValueError):
 
 
 class Closed(ValueError):
-    """The decoder is closed, or its page has ended."""
+    """The decoder is closed, its page has ended, or, of a line, it has not ended yet."""
 
 
 class NoSnapshot(ValueError):
