@@ -51,8 +51,6 @@ const FILTERS = {
 };
 /** @type {(column: number[]) => (one: number, other: number) => number} */
 const falling = (column) => (one, other) => column[other] - column[one];
-/** @type {(column: number[]) => (one: number, other: number) => number} */
-const rising = (column) => (one, other) => column[one] - column[other];
 /** @type {Record<string, ((one: number, other: number) => number) | null>} */
 const ORDERS = { name: null, bytes: falling(all.bytes), refused: falling(all.refused) };
 /** @type {Map<number, any[][]>} */
@@ -261,6 +259,18 @@ function havingWord(beginning) {
 }
 
 /**
+ * Puts pages with the same screen one after the other, where the first of them stands.
+ * @param {number[]} some
+ */
+function together(some) {
+  /** @type {Map<number, number>} */
+  const places = new Map();
+  some.forEach((number, at) => places.set(all.alike[number], Math.min(at, places.get(all.alike[number]) ?? at)));
+  const place = (/** @type {number} */ number) => places.get(all.alike[number]) || 0;
+  return some.sort((one, other) => place(one) - place(other));
+}
+
+/**
  * The numbers of the pages that are chosen, in their order.
  * @param {string[]} wanted
  */
@@ -273,8 +283,9 @@ function numbers(wanted) {
   for (let number = from; number < to; number++) {
     if (FILTERS[filter](number) && having.every((has) => has[number])) some.push(number);
   }
-  const order = filter === "alike" ? rising(all.alike) : ORDERS[part("order").value];
-  return order ? some.sort(order) : some;
+  const order = ORDERS[part("order").value];
+  if (order) some.sort(order);
+  return filter === "alike" ? together(some) : some;
 }
 
 // How many of all pages are chosen, and apart from them how many folders that can't be read.

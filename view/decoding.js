@@ -59,7 +59,10 @@ async function put(module, what, file, number) {
   try {
     const answer = await ask(module, what, { page: file.bytes, number });
     if (!WHOLE.includes(answer.status)) throw ended(file.name, answer.status);
-    return textOf(answer.text);
+    const text = textOf(answer.text);
+    // A browser gives no text where it would be longer than it can hold.
+    if (!text && answer.text.length) throw new PageFault(file.name, "textTooLong");
+    return text;
   } catch (fault) {
     throw fault instanceof PageFault ? fault : ended(file.name, NO_MEMORY);
   }

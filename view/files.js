@@ -3,7 +3,7 @@ import { ask } from "./asking.js";
 import { beside, bytesIn, textOf } from "./beside.js";
 import { word } from "./language.js";
 import { part } from "./panels.js";
-import { readChanges, readCheck } from "./text.js";
+import { TextFault, readChanges, readCheck } from "./text.js";
 
 /** @typedef {import("./types.js").File} Stored */
 /** @typedef {import("./types.js").Page} Page */
@@ -109,7 +109,11 @@ function inflated(letters) {
  * @param {Uint8Array} page
  */
 async function decoded(page) {
-  return textOf((await ask(await WebAssembly.compile(bytesIn(beside().module)), "changes", { page })).text);
+  const bytes = (await ask(await WebAssembly.compile(bytesIn(beside().module)), "changes", { page })).text;
+  const text = textOf(bytes);
+  // A browser gives no text where it would be longer than it can hold.
+  if (!text && bytes.length) throw new TextFault("textTooLong");
+  return text;
 }
 
 /**

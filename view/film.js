@@ -156,20 +156,20 @@ export class Film {
     const next = moment + 1 < this.moments.length ? this.moments[moment + 1].place : this.bytes.length;
     return this.bytes.subarray(this.moments[moment].place, next);
   }
+}
 
-  /**
-   * The rows as `show` puts them: a space for a concealed sign and for each further cell of a large one.
-   * @param {boolean} revealed
-   */
-  text(revealed) {
-    const looks = this.changes.looks;
-    let text = "";
-    this.grid.forEach((number, cell) => {
-      const look = looks[number];
-      const empty = look.kind === "space" || (look.concealed && !revealed) || look.down || look.right;
-      text += empty ? " " : unicodeOf(look);
-      if (cell % COLUMNS === COLUMNS - 1) text += "\n";
-    });
-    return text;
-  }
+/**
+ * The rows as `show` puts them: a space for a concealed sign and for each further cell of a large one.
+ * @param {import("./types.js").Cells} shown
+ * @param {boolean} revealed
+ */
+export function textOfRows({ looks, grid }, revealed) {
+  let text = "";
+  grid.forEach((number, cell) => {
+    const look = looks[number];
+    const empty = look.kind === "space" || (look.concealed && !revealed) || look.down || look.right;
+    text += empty ? " " : unicodeOf(look);
+    if (cell % COLUMNS === COLUMNS - 1) text += "\n";
+  });
+  return text;
 }

@@ -124,8 +124,11 @@ export class Line {
 
   close() {
     this.rest();
-    this.viewer.unwatch();
-    offer(false);
+    // Another one may be watched, where this one didn't open.
+    if (this.viewer.line === this) {
+      this.viewer.unwatch();
+      offer(false);
+    }
     this.decoder.close();
   }
 

@@ -1,6 +1,6 @@
 // Joins the parts: pages, the player, the screen, the panels and the controls.
 import { chosen, dropped, embedded, unpacked } from "./files.js";
-import { Film, lastGrid } from "./film.js";
+import { Film, lastGrid, textOfRows } from "./film.js";
 import { joinLanguages, onLanguage, word } from "./language.js";
 import { markIndex, part, say, showCell, showCounts, showIndex, showRefusals, stateOf, tell } from "./panels.js";
 import { OWN_TIME, Player } from "./player.js";
@@ -188,8 +188,8 @@ export class Viewer {
   }
 
   text() {
-    const film = this.film();
-    if (part("text-part").open && film) say("text", film.text(part("reveal").checked));
+    const shown = this.shown();
+    if (part("text-part").open && shown) say("text", textOfRows(shown, part("reveal").checked));
   }
 
   /** @param {number} cell */
@@ -272,9 +272,16 @@ export class Viewer {
     }
   }
 
-  async copy() {
+  // What is on the screen, or null where nothing was opened.
+  shown() {
     const film = this.film();
-    const text = film ? film.text(part("reveal").checked) : "";
+    return film ? { looks: film.changes.looks, grid: film.grid } : this.line;
+  }
+
+  async copy() {
+    const shown = this.shown();
+    if (!shown) return say("state", word("noPage"));
+    const text = textOfRows(shown, part("reveal").checked);
     part("text-part").open = true;
     say("text", text);
     const selection = window.getSelection();
@@ -286,12 +293,12 @@ export class Viewer {
   }
 
   save() {
-    const { page } = this;
-    if (!page) return;
+    if (!this.shown()) return say("state", word("noPage"));
+    const name = this.page ? this.page.name : "line";
     part("page").toBlob((/** @type {Blob} */ blob) => {
       const link = document.createElement("a");
       link.href = URL.createObjectURL(blob);
-      link.download = `${page.name}.png`;
+      link.download = `${name}.png`;
       link.click();
       setTimeout(() => URL.revokeObjectURL(link.href), 1000);
       say("state", word("saved"));
@@ -356,7 +363,7 @@ function keysOf() {
  * @param {KeyboardEvent} event
  */
 function onKey(keys, event) {
-  const typing = event.target instanceof Element && event.target.matches("textarea, select, input[type=range], input[type=file]");
+  const typing = event.target instanceof Element && event.target.matches("textarea, select, input:not([type=checkbox])");
   const letter = event.key.length === 1;
   if (typing || event.ctrlKey || event.altKey || event.metaKey || (letter && !part("letters").checked)) return;
   if (!Object.hasOwn(keys, event.key)) return;
@@ -454,8 +461,14 @@ async function begin() {
   window.addEventListener("resize", () => viewer.lay());
   onDensity(() => viewer.lay());
   window.addEventListener("hashchange", () => viewer.follow());
-  viewer.take(await unpacked(inside));
-  viewer.follow();
+  try {
+    viewer.take(await unpacked(inside));
+    viewer.follow();
+  } catch (fault) {
+    if (!(fault instanceof TextFault)) throw fault;
+    const { key, values } = fault;
+    tell("fault", () => word("of", { name: inside[0].name, why: word(key, values) }));
+  }
   part("open-part").open = !viewer.pages.length;
 }
 

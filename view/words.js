@@ -44,7 +44,7 @@ const GERMAN = {
   line: "Eine Leitung beobachten", speedOwn: "eigene Zeit",
   lineWords: "Öffnet einen WebSocket, wie ihn btx host --web hat, und zeigt, was darüber kommt, sobald es kommt. Endet die Leitung oder wird "
     + "sie verlassen, ist das Gekommene eine Seite; sichern lässt es sich jederzeit. Was unter „Eingabe“ steht, geht mit der Eingabetaste "
-    + "hinaus: * und # beginnen und beenden einen Abruf.",
+    + "hinaus: * und # beginnen und beenden einen Abruf, und was nicht zu ASCII gehört, bleibt hier.",
   lineAddress: "Adresse", lineWatch: "Beobachten", lineLeave: "Verlassen", lineSave: "Gekommenes sichern", lineKeys: "Eingabe",
   lineOpen: "Die Leitung ist offen.", lineEnded: "Die Leitung ist zu Ende. Was kam, ist eine Seite.", lineSaved: "Das Gekommene ist gesichert.",
   lineUnopened: "die Leitung lässt sich nicht öffnen", lineNowhere: "das ist keine Adresse eines WebSockets",
@@ -61,6 +61,7 @@ const GERMAN = {
   notRefusal: "Zeile {number} ist keine Abweisung: „{line}“", notCheck: "Zeile {number} ist keine letzte Zeile von check: „{line}“",
   ended4: "sie lässt sich nicht bis zum Ende lesen", ended5: "für ihren Text ist nicht genug Platz; nur sein Anfang wurde geschrieben",
   ended6: "der Speicher reicht nicht; nichts wurde geschrieben",
+  textTooLong: "was sich auf ihr ändert, ist als Text länger, als der Browser es fasst; btx changes schreibt es",
   ended7: "die Seite hat mehr als 16.777.216 Bytes; nur die Elemente der ersten 16.777.216 wurden gelesen",
   ended: "das Programm endete mit Status {status}", noPages: "keine Datei darin endet auf .btx",
 };
@@ -102,7 +103,7 @@ const ENGLISH = {
   line: "Watch a line", speedOwn: "its own time",
   lineWords: "Opens a WebSocket, such as btx host --web has, and shows what comes over it as it comes. When it ends, or is left, what came is "
     + "a page, and it can be saved as one at any time. What is written under “Input” is sent when Return is pressed: * and # begin and end "
-    + "a request.",
+    + "a request, and what isn't ASCII stays here.",
   lineAddress: "Address", lineWatch: "Watch", lineLeave: "Leave", lineSave: "Save what came", lineKeys: "Input",
   lineOpen: "The line is open.", lineEnded: "The line has ended. What came is a page.", lineSaved: "What came is saved.",
   lineUnopened: "the line can't be opened", lineNowhere: "this is no address of a WebSocket",
@@ -118,6 +119,7 @@ const ENGLISH = {
   notRefusal: "Line {number} is not understood as a refusal: “{line}”", notCheck: "Line {number} is not understood as a check line: “{line}”",
   ended4: "it could not be read to its end", ended5: "its text is longer than there is room for; only the front of it was written",
   ended6: "there is not enough memory; nothing was written",
+  textTooLong: "what changes on it is longer as a text than the browser can hold; btx changes writes it",
   ended7: "the page has more than 16,777,216 bytes; only the items of the first 16,777,216 were read",
   ended: "the program ended with status {status}", noPages: "no file in it ends in .btx",
 };

@@ -2,7 +2,7 @@
 import assert from "node:assert";
 import { test } from "node:test";
 import { isWithin, most } from "./counted.js";
-import { Film } from "../film.js";
+import { Film, textOfRows } from "../film.js";
 import { CELLS, readChanges } from "../text.js";
 
 const LINES = 50000;
@@ -51,5 +51,5 @@ test("a step goes through the lines of its moment alone, and no moment is sought
 });
 
 test("the text of the screen is made cell by cell", () => {
-  isWithin(most(() => film.text(false)), CELLS, "text");
+  isWithin(most(() => textOfRows({ looks: film.changes.looks, grid: film.grid }, false)), CELLS, "text");
 });

@@ -4,7 +4,7 @@ import assert from "node:assert";
 import { test } from "node:test";
 import { pages } from "./stub.js";
 import { seenText } from "../dots.js";
-import { Film, lastGrid } from "../film.js";
+import { Film, lastGrid, textOfRows } from "../film.js";
 import { unicodeOf } from "../signs.js";
 import {
   CELLS, COLUMNS, PHASES, TextFault, pixelsOf, readCells, readChanges, readCheck, readLook,
@@ -20,7 +20,7 @@ test("a film ends with the screen that the program shows", () => {
   for (const [name, page] of Object.entries(pages)) {
     const film = filmOf(page);
     film.go(film.moments.length);
-    const text = film.text(false).split("\n");
+    const text = textOfRows({ looks: film.changes.looks, grid: film.grid }, false).split("\n");
     assert.deepStrictEqual(text.slice(0, page.show.split("\n").length - 1), page.show.split("\n").slice(0, -1), name);
   }
 });
