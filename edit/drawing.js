@@ -38,10 +38,20 @@ const shapeOf = (look) => look.text.split(" ")[0];
  */
 const isMosaic = (look) => look.set === "M" && !look.down && !look.right;
 /**
- * The lines of a drawing in a text.
+ * The lines of a drawing in a text, up to the last that isn't empty.
  * @param {string} text
  */
-const linesOf = (text) => text.split("\n").map(inGrammar).filter((line) => line !== "");
+function linesOf(text) {
+  const lines = text.split("\n").map(inGrammar);
+  while (lines[lines.length - 1] === "") lines.pop();
+  return lines;
+}
+
+/**
+ * The first of some places or numbers, and whether there are more.
+ * @param {(string | number)[]} all
+ */
+const firstOf = (all) => all.slice(0, MOST_TOLD).join(", ") + (all.length > MOST_TOLD ? ", …" : "");
 /** @param {number} cell */
 const placeOf = (cell) => [Math.floor(cell / COLUMNS) + 1, (cell % COLUMNS) + 1];
 
@@ -309,11 +319,9 @@ export class Drawing {
    * @param {number[]} lines
    */
   tellLost(cells, lines) {
-    const places = cells.slice(0, MOST_TOLD).map((cell) => placeOf(cell).join("/")).join(", ");
-    const numbers = lines.slice(0, MOST_TOLD).join(", ") + (lines.length > MOST_TOLD ? ", …" : "");
     const said = [
-      cells.length ? word("drawCovered", { places }) : "",
-      lines.length ? word("drawBelow", { rows: this.needs.sheet.rows, lines: numbers }) : "",
+      cells.length ? word("drawCovered", { places: firstOf(cells.map((cell) => placeOf(cell).join("/"))) }) : "",
+      lines.length ? word("drawBelow", { rows: this.needs.sheet.rows, lines: firstOf(lines) }) : "",
     ];
     this.fault(said.filter((text) => text).join(" "));
   }
@@ -366,7 +374,7 @@ export class Drawing {
   keep() {
     const { drawn, lines, isTried } = this;
     if (isTried) this.forget();
-    if (isTried && drawn) this.tell({ kind: "act", lines: [`# ${lines.join("; ")}`, drawn.line] });
+    if (isTried && drawn) this.tell({ kind: "act", lines: [`# ${lines.filter((line) => line).join("; ")}`, drawn.line] });
     if (isTried) this.put();
     this.show();
   }

@@ -143,6 +143,7 @@ class Editor {
     say("fault", isFault ? text : "");
     say("state", text);
     say("note", isFault ? "" : text);
+    part("note").title = part("fault").title = text;
   }
 
   // Whether lines can be added: not while one of the script is wrong.
@@ -172,7 +173,7 @@ class Editor {
    */
   draw(text) {
     part("tab-draw").click();
-    if (this.asker.canPlot) this.drawing.goOn(`${this.drawing.underWay()}\n${text}`);
+    if (this.asker.canPlot) this.drawing.goOn([this.drawing.underWay(), text].filter((lines) => lines).join("\n"));
   }
 
   /** @param {import("./store.js").Kept} kept */

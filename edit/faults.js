@@ -14,9 +14,6 @@ export class AskFault extends Error {
   }
 }
 
-// A script or a drawing that isn't in UTF-8, by the sentence that says so.
-export class NotUtf8 extends Error {}
-
 // A line that is outside the grammar of scripts or drawings, by the program's own words.
 export class BadLine extends Error {
   /** @param {string} text */

@@ -1,7 +1,7 @@
 // The words of scripts and drawings, and what stands after each, as the man page of cept_tool has them. Which line is outside the grammar the
 // program says; what here stands says why.
 import { word } from "./words.js";
-import { hex, inGrammar, toldSign, unknownIn } from "./lines.js";
+import { hex, inGrammar, plainerSign, toldSign, unknownIn } from "./lines.js";
 
 /**
  * A number after a word: its name, the least and the most that are taken, and those between that aren't.
@@ -18,6 +18,8 @@ import { hex, inGrammar, toldSign, unknownIn } from "./lines.js";
  * @returns {Taken}
  */
 const number = (name, least, most, ...without) => ({ name, least, most, without });
+// So many signs of a word are told.
+const LONGEST = 60;
 const [TEXT, DIGITS] = ["SIGNS", "DIGITS"];
 const CODE = [number("N", 0, 31, 27)];
 const AREA = [number("A", 1, 24), number("B", 1, 24)];
@@ -102,12 +104,18 @@ function rangeOf({ least, most, without }) {
 }
 
 /**
+ * The beginning of a long word.
+ * @param {string} text
+ */
+const shortened = (text) => (text.length > LONGEST ? `${text.slice(0, LONGEST)}…` : text);
+
+/**
  * What is wrong with a number, or nothing.
  * @param {Taken} taken
  * @param {string} value
  */
 function ofNumber(taken, value) {
-  const [values, given] = [{ name: taken.name, value, range: rangeOf(taken) }, Number(value)];
+  const [values, given] = [{ name: taken.name, value: shortened(value), range: rangeOf(taken) }, Number(value)];
   if (!/^\d{1,2}$/.test(value)) return word("noNumber", values);
   return given >= taken.least && given <= taken.most && !taken.without.includes(given) ? "" : word("otherNumber", values);
 }
@@ -130,7 +138,8 @@ function ofNumbers(wanted, values) {
 function ofCount(name, wanted, found) {
   const names = typeof wanted === "string" ? [wanted] : wanted.map((taken) => taken.name);
   const key = names.length > 1 ? "otherCount" : names.length ? "otherCountOne" : "otherCountNone";
-  return word(key, { name, names: names.join(" "), count: names.length, found });
+  const told = word(["foundNone", "foundOne"][found] || "foundMore", { found });
+  return word(key, { name, names: names.join(" "), count: names.length, found: told });
 }
 
 /**
@@ -148,7 +157,23 @@ function ofDigits(digits, before) {
 /** @param {string} line */
 function ofText(line) {
   const unknown = unknownIn(line);
-  return unknown ? word("badSign", { sign: toldSign(unknown.sign), place: unknown.place }) : "";
+  if (!unknown) return "";
+  const by = plainerSign(unknown.sign);
+  const sign = unknown.sign === "\t" ? word("tabSign") : toldSign(unknown.sign);
+  return word(by ? "badSignPlainer" : "badSign", { sign, place: unknown.place, by });
+}
+
+/**
+ * What is wrong with a first word that the kind doesn't have.
+ * @param {string} name
+ * @param {Kind} kind
+ */
+function ofName(name, kind) {
+  const shown = shortened(name);
+  if (kind === "script" && GRAMMAR.drawing.has(name)) return word("wordOfDrawings", { name });
+  if (kind === "drawing" && GRAMMAR.script.has(name)) return word("wordOfScripts", { name });
+  const near = nearest(name, [...GRAMMAR[kind].keys()]);
+  return word(near ? "noWordNear" : "noWord", { name: shown, near });
 }
 
 /**
@@ -158,12 +183,9 @@ function ofText(line) {
  * @returns {string}
  */
 export function wrongIn(line, kind) {
-  const [[name], words] = [/^[^ \t]*/.exec(line.replace(/^[ \t]+/, "")) || [""], GRAMMAR[kind]];
-  const wanted = words.get(name);
-  if (wanted === undefined) {
-    const near = nearest(name, [...words.keys()]);
-    return word(near ? "noWordNear" : "noWord", { name, near });
-  }
+  const [name] = /^[^ \t]*/.exec(line.replace(/^[ \t]+/, "")) || [""];
+  const wanted = GRAMMAR[kind].get(name);
+  if (wanted === undefined) return ofName(name, kind);
   const values = inGrammar(line).split(" ").slice(1);
   if (wanted === TEXT) return values.length ? ofText(line) : word("noText");
   if (values.length !== (typeof wanted === "string" ? 1 : wanted.length)) return ofCount(name, wanted, values.length);

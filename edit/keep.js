@@ -2,7 +2,7 @@
 import { TABLES, word } from "./words.js";
 import { STATUS } from "./statuses.js";
 import { textOf } from "./ask.js";
-import { AskFault, NotUtf8 } from "./faults.js";
+import { AskFault } from "./faults.js";
 import { isDrawing } from "./grammar.js";
 import { Store, isBegun, toLetters } from "./store.js";
 import { part } from "./controls.js";
@@ -26,8 +26,8 @@ const IS_DRAWING = /\.drawing$/i;
 const TURNS = 6;
 
 /**
- * A file that is opened: what it is, and its text where it is no page.
- * @typedef {{ name: string, kind: "page" | "script" | "drawing", text: string, file: File }} Opened
+ * A file that is opened: what it is, and its text where it is no page; of a closed one, which isn't opened, the text says why.
+ * @typedef {{ name: string, kind: "page" | "script" | "drawing" | "closed", text: string, file: File }} Opened
  */
 
 /**
@@ -63,7 +63,7 @@ export function remarksOn(page, rest) {
 }
 
 /**
- * The text of a file that is in UTF-8.
+ * The text of a file, or null where it isn't in UTF-8.
  * @param {File} file
  */
 async function textIn(file) {
@@ -71,7 +71,7 @@ async function textIn(file) {
   try {
     return new TextDecoder("utf-8", { fatal: true }).decode(bytes).replace(/\r\n?/g, "\n");
   } catch {
-    throw new NotUtf8(word("notUtf8", { name: file.name }));
+    return null;
   }
 }
 
@@ -83,6 +83,7 @@ async function textIn(file) {
 async function opened(file) {
   const { name } = file;
   const text = kindOfFile(name, "") === "page" ? "" : await textIn(file);
+  if (text === null) return { name, kind: "closed", text: word("notUtf8", { name }), file };
   return { name, kind: kindOfFile(name, text), text, file };
 }
 
@@ -206,6 +207,7 @@ export class Keep {
     if (!this.needs.ready()) return;
     this.needs.finish();
     this.download(".btx", this.needs.sheet.edited());
+    this.savedPage = this.needs.sheet.page;
     this.settle();
   }
 
@@ -217,7 +219,6 @@ export class Keep {
 
   settle() {
     this.saved = this.needs.sheet.script();
-    this.savedPage = this.needs.sheet.page;
     this.store(false);
     this.tell({ kind: "named" });
   }
@@ -278,16 +279,19 @@ export class Keep {
     const files = [...list];
     let name = files.length ? files[0].name : "";
     try {
-      const { script, page, drawing, rest } = sortedFiles(await Promise.all(files.map(opened)));
+      const all = await Promise.all(files.map(opened));
+      const closed = all.filter((file) => file.kind === "closed");
+      const { script, page, drawing, rest } = sortedFiles(all.filter((file) => file.kind !== "closed"));
       name = (page || script || drawing || { name }).name;
-      const remarks = remarksOn(page ? page.name : null, rest.map((file) => file.name));
+      const remarks = [...closed.map((file) => file.text), remarksOn(page ? page.name : null, rest.map((file) => file.name))];
+      const said = remarks.filter((remark) => remark).join(" ");
       const bytes = page ? new Uint8Array(await page.file.arrayBuffer()) : this.needs.sheet.page;
       if ((page || script) && !(await this.mayLeave())) return;
       if (page || script) this.take(savedOf(page ? page.name : this.name || name, bytes, script ? script.text : ""));
       if (drawing) this.tell({ kind: "figures", text: drawing.text });
-      if (remarks) this.say(remarks);
+      if (said) this.say(said, closed.length > 0);
     } catch (fault) {
-      this.say(fault instanceof NotUtf8 ? fault.message : this.endOf(fault, name), true);
+      this.say(this.endOf(fault, name), true);
     }
   }
 

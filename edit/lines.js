@@ -88,6 +88,11 @@ export function plainer(line, noted) {
     return by || sign;
   }).join("");
 }
+/**
+ * The plainer sign for one of word processors, or none.
+ * @param {string} sign
+ */
+export const plainerSign = (sign) => PLAINER.get(sign) || "";
 /** @param {Sign} sign */
 const isPlain = ({ set, code, accent }) => set === "P" && code < 0x7f && !accent;
 /** @param {Sign[]} signs */
@@ -237,7 +242,7 @@ export const MARKERS = {
   normal: "c1 12", high: "c1 13", wide: "c1 14", both: "c1 15",
   steady: "c1 9", flash: "c1 8", inverted: flashMode(0), reduced: flashMode(1), fast1: flashMode(2), fast2: flashMode(3), fast3: flashMode(4),
   next: flashMode(5), previous: flashMode(6),
-  lined: "c1 26", unlined: "c1 25", boxed: "c1 11", unboxed: "c1 10", conceal: "c1 24", reveal: raw(0x9b, 0x42),
+  lined: "c1 26", unlined: "c1 25", boxed: "c1 11", unboxed: "c1 10", conceal: "c1 24", revealed: raw(0x9b, 0x42),
   blackBack: "c1 28", newBack: "c1 29", hold: "c1 30", release: "c1 31",
 };
 /**

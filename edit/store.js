@@ -66,19 +66,33 @@ export class Store {
     this.storage = storage;
     this.locks = locks;
     this.id = "one";
+    // Whether the storage has the page of the script that is put next.
+    this.hasPage = false;
   }
 
   /**
-   * Keeps a script, and the page where it is another. Answers whether that is kept.
+   * Keeps a page; where that fails the storage has none, since the one before belongs to another script.
+   * @param {Pick<Kept, "name" | "page" | "cuts">} kept
+   */
+  putPage({ name, page, cuts }) {
+    const before = cuts.map((cut) => ({ ...cut, page: toLetters(cut.page) }));
+    this.hasPage = false;
+    try {
+      this.storage().setItem(pageName(this.id), JSON.stringify({ name, page: toLetters(page), cuts: before }));
+      this.hasPage = true;
+    } finally {
+      if (!this.hasPage) this.storage().removeItem(pageName(this.id));
+    }
+  }
+
+  /**
+   * Keeps a script, and the page where it is another or isn't kept yet. Answers whether both are kept.
    * @param {Kept} kept
    * @param {boolean} pageToo
    */
   put({ name, page, cuts, ...rest }, pageToo) {
     try {
-      if (pageToo) {
-        const before = cuts.map((cut) => ({ ...cut, page: toLetters(cut.page) }));
-        this.storage().setItem(pageName(this.id), JSON.stringify({ name, page: toLetters(page), cuts: before }));
-      }
+      if (pageToo || !this.hasPage) this.putPage({ name, page, cuts });
       this.storage().setItem(scriptName(this.id), JSON.stringify({ ...rest, time: Date.now() }));
       return true;
     } catch (fault) {

@@ -176,7 +176,7 @@ export class Typing {
     const { row } = this;
     this.remarked(() => {
       act();
-      if (this.row < row && !this.composing) this.remark(word("pastEnd", { row: this.row }));
+      if (this.row < row && !this.composing) this.remark(word("pastEnd"));
     });
   }
 

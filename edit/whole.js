@@ -104,7 +104,7 @@ export class Whole {
 
   format() {
     const rows = choice("formatPart", [["24", "rows24"], ["20", "rows20"]], () => {});
-    const wrap = choice("formatPart", [["wrap", "wrap"], ["noWrap", "noWrap"]], () => {});
+    const wrap = choice("wrapPart", [["wrap", "wrap"], ["noWrap", "noWrap"]], () => {});
     this.formats = [rows, wrap];
     const set = () => this.act([formatLine(Number(rows.value), wrap.value === "wrap")]);
     return group("formatPart", rows, wrap, button("apply", set, { name: "formatHint", "data-apply": "format" }));

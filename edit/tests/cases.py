@@ -195,7 +195,7 @@ def signs_of_all_sets_are_typed(hand):
     # Of what is pasted all is told that is left out, each once; a tab is spaces.
     hand.cell(6, 1)
     hand.tab.call("Input.insertText", text="a€\tb中\n€c")
-    assert hand.text("note").startswith("3 Zeichen sind ausgelassen") and hand.text("note").endswith(": € 中"), hand.text("note")
+    assert hand.text("note").startswith("3 Zeichen sind ausgelassen") and hand.text("note").endswith("(€ 中)."), hand.text("note")
     assert [hand.looks()[cell][:3] for cell in (200, 208, 240)] == ["P61", "P62", "P63"], hand.script()
     hand.is_true()
 
@@ -205,12 +205,12 @@ def past_the_last_row_it_goes_on_in_the_first(hand):
     hand.fresh()
     hand.cell(24, 40)
     hand.type("x")
-    assert hand.caret() == (1, 1) and hand.text("note").endswith("in Zeile 1."), hand.text("note")
+    assert hand.caret() == (1, 1) and hand.text("note").endswith("in der ersten."), hand.text("note")
     hand.type("yz")
-    assert hand.text("note").endswith("in Zeile 1."), "the warning is gone with the next key"
+    assert hand.text("note").endswith("in der ersten."), "the warning is gone with the next key"
     hand.cell(24, 3)
     hand.key("Enter")
-    assert hand.caret() == (1, 1) and hand.text("note").endswith("in Zeile 1."), hand.text("note")
+    assert hand.caret() == (1, 1) and hand.text("note").endswith("in der ersten."), hand.text("note")
     hand.cell(3, 3)
     hand.key("Enter")
     assert hand.text("note") == "", hand.text("note")
@@ -433,7 +433,7 @@ def serial_attributes_are_markers(hand):
     hand.is_true()
 
 
-FORMATS = """[...document.querySelectorAll('#sheet select[data-name="formatPart"]')].map((one) => one.value)"""
+FORMATS = """["format", "wrap"].map((name) => document.querySelector(`#sheet select[data-name="${name}Part"]`).value)"""
 
 
 def rows_screen_area_format_and_colours_are_lines(hand):
@@ -481,7 +481,7 @@ def rows_screen_area_format_and_colours_are_lines(hand):
     hand.fill('#sheet input[data-name="repeatCount"]', "64")
     hand.click('#sheet [data-word="repeat"]')
     assert hand.text("fault") == "„repeat 64“ geht nicht: N ist 64, erlaubt ist 0 bis 63.", hand.text("fault")
-    refused = ("0", "25", "A ist 0, erlaubt ist 1 bis 24; B ist 25"), ("9", "3", "A ist 9 und B 3"), ("", "3", "stehen 2 Angaben")
+    refused = ("0", "25", "A ist 0, erlaubt ist 1 bis 24; B ist 25"), ("9", "3", "A ist 9 und B 3"), ("", "3", "gehören 2 Angaben, A B; hier steht eine")
     for first, last, why in refused:
         hand.fill('#sheet input[data-name="areaFrom"]', first)
         hand.fill('#sheet input[data-name="areaTo"]', last)
@@ -506,11 +506,11 @@ def rows_screen_area_format_and_colours_are_lines(hand):
     hand.click('#colours [data-word="colourReset"]')
     hand.is_true()
     hand.tab_of("sheet")
-    hand.choose('#sheet select[data-name="formatPart"]', "20", 0)
+    hand.choose('#sheet select[data-name="formatPart"]', "20")
     hand.click('[data-apply="format"]')
     assert hand.lines()[-1] == "raw 1F2D4270", hand.lines()
     # The format in force is shown, also of a page that is opened.
-    hand.choose('#sheet select[data-name="formatPart"]', "noWrap", 1)
+    hand.choose('#sheet select[data-name="wrapPart"]', "noWrap")
     hand.click('[data-apply="format"]')
     assert hand.lines()[-1] == "raw 1F2D4271", hand.lines()
     hand.key("z", held=CONTROL)
@@ -533,7 +533,7 @@ def the_format_bounds_caret_and_drawing(hand):
     hand.cell(23, 5)
     assert hand.caret() == (23, 5), hand.caret()
     hand.tab_of("sheet")
-    hand.choose('#sheet select[data-name="formatPart"]', "20", 0)
+    hand.choose('#sheet select[data-name="formatPart"]', "20")
     hand.click('[data-apply="format"]')
     assert hand.caret()[0] <= 20 and abs(hand.tab.value(SHADED) - 20 / 24) < 0.01, (hand.caret(), hand.tab.value(SHADED))
     hand.cell(22, 9)
@@ -664,8 +664,8 @@ def drawings_are_seen_before_they_are_kept(hand):
     assert [look.split(" ")[0] for look in shown] == [look.split(" ")[0] for look in plotted], "seen is something else than plot says"
     assert hand.is_other(before), "nothing was drawn"
     plotted = read(hand.written("plotted.btx", hand.put("plot", hand.written("before.btx", before), drawing)))
-    hand.fill("#drawing", "box 1 1 90 1")
-    assert "3 BadNumber" in hand.text("draw-fault"), hand.text("draw-fault")
+    hand.fill("#drawing", "plot 1 1\n\nbox 1 1 90 1\n")
+    assert hand.text("draw-fault").startswith("Zeile 3 der Zeichnung: 3 BadNumber"), hand.text("draw-fault")
     hand.fill("#drawing", read(drawing).decode())
     hand.click("#draw button.main")
     assert hand.looks() == shown, "kept is something else than was seen"
@@ -815,7 +815,7 @@ def a_bad_line_is_told(hand):
         files = hand.written("stored.btx", b""), hand.written("bad.txt", bad.encode())
         assert hand.put("edit", *files, wanted=(3,)).decode() == f"script line {said}\n"
     hand.write_script("text ö„\n")
-    assert hand.text("script-fault").endswith("„„“ an Stelle 7 gibt es in den Zeichensätzen nicht"), hand.text("script-fault")
+    assert hand.text("script-fault").endswith("„„“ an Stelle 7 gibt es in den Zeichensätzen nicht, aber „\"“"), hand.text("script-fault")
     hand.write_script("raw 1C\n")
     # Nothing is added after a bad line.
     hand.tab.value("Tamligub.part('typing').focus()")
@@ -893,7 +893,7 @@ def the_items_of_a_page_are_stepped_and_marked(hand):
     still(hand)
     lines, ends = items_of(hand, page("title"))
     hand.click("#items-part summary")
-    hand.tab.until(f"Tamligub.part('items-count').textContent.endsWith(' {len(lines)} Elemente')")
+    hand.tab.until(f"Tamligub.part('items-count').textContent.endsWith(': {len(lines)}')")
     hand.tab.value("Tamligub.part('items').focus()")
     for number in range(1, 13):
         hand.key("ArrowDown")
@@ -962,6 +962,8 @@ def a_page_is_cut_and_made_lines(hand):
     hand.click("#cut-here")
     assert hand.script() == "" and hand.looks() == hand.looks_of(hand.written("cut.btx", stored[: ends[number - 1]])), "the cut shows something else"
     assert hand.text("name").endswith("●"), "a page that was cut is saved"
+    hand.kept("#keep-script")
+    assert hand.tab.value("Tamligub.editor.keep.isUnsaved()"), "a page that was cut is saved with the script"
     hand.cell(24, 3)
     hand.type("neu")
     hand.is_true(stored[: ends[number - 1]])
@@ -1184,6 +1186,10 @@ def what_is_not_opened_is_told(hand):
     assert hand.text("name") == "title.btx" and "Nicht geöffnet: boat.btx;" in hand.text("note"), hand.text("note")
     hand.open(hand.written("README.md", b"# A"))
     assert hand.text("name") == "README.md" and hand.text("note").startswith("README.md ist als Seite geöffnet"), hand.text("note")
+    # A script that isn't in UTF-8 keeps nothing else closed.
+    hand.open(hand.written("latin.txt", "at 3 3\ntext Größe\n".encode("latin-1")), page("boat"))
+    hand.tab.until("Tamligub.part('name').textContent === 'boat.btx'")
+    assert hand.text("fault").startswith("latin.txt ist nicht in UTF-8") and hand.looks() == hand.looks_of(page("boat")), hand.text("fault")
 
 
 def a_drawing_is_opened(hand):
@@ -1394,9 +1400,13 @@ def every_control_has_a_name_in_both_languages(hand):
       const label = one.labels && one.labels.length ? one.labels[0].textContent.trim() : "";
       return [one.outerHTML.slice(0, 120), one.getAttribute("aria-label") || label || one.textContent.trim()];
     })"""
+    # Who says what stands on a control means that one.
+    others = """[...document.querySelectorAll("button[data-word][aria-label]")].map((one) => [one.textContent, one.getAttribute("aria-label")])
+      .filter(([seen, name]) => !name.includes(seen))"""
     seen = {}
     for language in ("de", "en"):
         hand.choose("#language", language)
+        assert hand.tab.value(others) == [], hand.tab.value(others)
         assert hand.tab.value("document.documentElement.lang") == language
         found = hand.tab.value(names)
         assert len(found) > 150, len(found)
@@ -1408,6 +1418,8 @@ def every_control_has_a_name_in_both_languages(hand):
     access.all_is_named(hand.tab, 25)
 
 
+# How far the screen begins below a note.
+BELOW = "Tamligub.part('screen').getBoundingClientRect().top - Tamligub.part('note').getBoundingClientRect().bottom"
 # Where the tools and the screen are.
 PLACES = """["tools", "screen"].map((id) => {
   const box = Tamligub.part(id).getBoundingClientRect();
@@ -1425,7 +1437,9 @@ def nothing_moves_under_the_pointer(hand):
             before = hand.tab.value(PLACES)
             hand.cell(24, 40)
             hand.type("xy")
-            assert hand.text("note"), "nothing is told"
+            hand.type("\u201eFr\u00fchling\u201c \u2013 5 \u20ac \u2026 \u201aab\u2018 Mai \u2014 Tel. \u260e 0731 \u2713 \u201cneu\u201d")
+            assert hand.text("note") and hand.tab.value("Tamligub.part('note').title") == hand.text("note"), "nothing is told"
+            assert hand.tab.value(BELOW) >= 0, "a note lies over the screen"
             hand.hover(*hand.place(39, 23, 40, 24))
             assert "78" in hand.text("where") and hand.tab.value("Tamligub.part('where').title") == hand.text("where"), hand.text("where")
             assert hand.tab.value(PLACES) == before, f"{language}, {size}: {before} has become {hand.tab.value(PLACES)}"

@@ -15,10 +15,11 @@ const BAD = [
   ["txt a", "UnknownWord", ["noWordNear", { name: "txt", near: "text" }]],
   ["rev 1", "UnknownWord", ["noWordNear", { name: "rev", near: "revision" }]],
   ["constructor", "UnknownWord", ["noWord", { name: "constructor" }]],
-  ["at 1", "WrongCount", ["otherCount", { name: "at", count: 2, names: "ROW COLUMN", found: 1 }]],
-  ["c1", "WrongCount", ["otherCountOne", { name: "c1", names: "N", found: 0 }]],
-  ["raw 1F 2F", "WrongCount", ["otherCountOne", { name: "raw", names: "DIGITS", found: 2 }]],
-  ["undo 1", "WrongCount", ["otherCountNone", { name: "undo" }]],
+  ["line 1 1 9 9", "UnknownWord", ["wordOfDrawings", { name: "line" }]],
+  ["at 1", "WrongCount", ["otherCount", { name: "at", count: 2, names: "ROW COLUMN", found: word("foundOne") }]],
+  ["c1", "WrongCount", ["otherCountOne", { name: "c1", names: "N", found: word("foundNone") }]],
+  ["raw 1F 2F", "WrongCount", ["otherCountOne", { name: "raw", names: "DIGITS", found: word("foundMore", { found: 2 }) }]],
+  ["undo 1", "WrongCount", ["otherCountNone", { name: "undo", found: word("foundOne") }]],
   ["text", "WrongCount", ["noText", {}]],
   ["at 25 x", "BadNumber", ["otherNumber", { name: "ROW", value: 25, range: "1 bis 24" }], ["noNumber", { name: "COLUMN", value: "x", range: "1 bis 40" }]],
   ["c1 27", "BadNumber", ["otherNumber", { name: "N", value: 27, range: "0 bis 31, aber nicht 27" }]],
@@ -26,8 +27,10 @@ const BAD = [
   ["revision 3", "BadNumber", ["otherNumber", { name: "N", value: 3, range: "1 oder 2" }]],
   ["area 9 8", "BadNumber", ["otherOrder", { a: 9, b: 8 }]],
   ["  text a€", "BadText", ["badSign", { sign: "€", place: 9 }]],
+  ["text a\u2026", "BadText", ["badSignPlainer", { sign: "\u2026", place: 7, by: "..." }]],
   ["text \u200bx", "BadText", ["badSign", { sign: "U+200B", place: 6 }]],
   [" raw 1G", "BadHex", ["noDigit", { sign: "G", place: 7 }]],
+  ["text a\tb", "BadText", ["badSign", { sign: word("tabSign"), place: 7 }]],
   ["raw 1", "BadHex", ["oddDigits", { count: 1 }]],
 ];
 
@@ -41,7 +44,7 @@ test("a bad line is told with what it takes, and of a good one nothing is", () =
   for (const line of GOOD) assert.strictEqual(wrongIn(line, "script"), "", line);
   for (const [line, , ...said] of BAD) assert.strictEqual(wrongIn(line, "script"), said.map((one) => word(...one)).join("; "), line);
   assert.strictEqual(wrongIn("box 1 1 80 1", "drawing"), word("otherNumber", { name: "X", value: 80, range: "0 bis 79" }));
-  assert.strictEqual(wrongIn("text a", "drawing"), word("noWord", { name: "text" }));
+  assert.strictEqual(wrongIn("text a", "drawing"), word("wordOfScripts", { name: "text" }));
 });
 
 asked("the program refuses the same lines for these reasons", () => {

@@ -4,11 +4,21 @@ import { test } from "node:test";
 import { Store, fromLetters, toLetters } from "../store.js";
 
 class Memory {
+  constructor() {
+    // How many letters the storage takes, which is none of its items.
+    Object.defineProperty(this, "most", { value: Infinity, writable: true, enumerable: false });
+  }
+
+  takes(most) {
+    this.most = most;
+  }
+
   getItem(key) {
     return Object.hasOwn(this, key) ? this[key] : null;
   }
 
   setItem(key, value) {
+    if (String(value).length > this.most) throw new Error("no room");
     this[key] = String(value);
   }
 
@@ -68,6 +78,19 @@ test("a script is kept without its page anew", async () => {
   store.put({ ...KEPT, page: Uint8Array.of(1), script: "at 2 2\n" }, false);
   const { page, script } = (await begun(storage)).taken;
   assert.deepStrictEqual([page, script], [KEPT.page, "at 2 2\n"]);
+});
+
+test("a script isn't kept beside the page of another, and a page that found no room is kept once it finds some", async () => {
+  const storage = new Memory();
+  const { store } = await begun(storage);
+  store.put(KEPT, true);
+  const other = { ...KEPT, name: "other.btx", page: new Uint8Array(1000), script: "at 3 3\n" };
+  storage.takes(500);
+  assert.deepStrictEqual([store.put(other, true), store.put(other, false)], [false, false]);
+  assert.strictEqual((await begun(storage)).taken, null);
+  storage.takes(Infinity);
+  const again = new Store(() => storage, new Locks());
+  assert.deepStrictEqual([again.put(other, false), again.of(again.id).name, again.of(again.id).script], [true, "other.btx", "at 3 3\n"]);
 });
 
 test("the cuts of a page are kept with it, and a page that was cut is unsaved whatever its script", async () => {
