@@ -80,18 +80,26 @@ class Install(stand.Case):
         self.assertIn(f"install: BTX_PROGRAM names {stand.program}, and whether it is proved isn't looked at\n", done.stderr.decode())
         self.works(prefix)
         self.completes_in_fish(said)
+        self.completes_in_bash(said)
         # Once more over itself.
         self.is_right(self.run_of(INSTALL, prefix, env=stand.environment()))
         self.works(prefix)
 
     def completes_in_fish(self, said):
-        """Whether fish completes btx after what an install has said of it."""
-        line = "; ".join(re.findall("^(?:a shell finds|fish completes) btx .*?: (.*)$", said, re.MULTILINE))
-        self.assertIn("; export XDG_DATA_DIRS=", line)
+        """Whether fish completes btx after what an install has said of it, typed in fish."""
+        lines: list[str] = re.findall("^fish (?:finds them|completes btx) after: (.*)$", said, re.MULTILINE)
+        self.assertEqual([line.split(" ")[0] for line in lines], ["fish_add_path", "source"])
         if stand.absent.needed(f"btx_tests/run: {self.id()}, fish", "fish"):
             bare = {name: value for name, value in self.bare().items() if name != "XDG_DATA_DIRS"}
-            found = self.run_of("sh", "-ec", f"{line}; fish -c \"complete -C 'btx arc'\"", env={**bare, "HOME": self.folder})
-            self.assertEqual(self.is_right(found).decode().split("\t")[0], "archive")
+            found = self.run_of("fish", "-c", "; ".join([*lines, "type -P btx; complete -C 'btx arc'"]), env={**bare, "HOME": self.folder})
+            path, first = self.is_right(found).decode().split("\n")[:2]
+            self.assertEqual((path, first.split("\t")[0]), (self.path("pre fix", "bin", "btx"), "archive"))
+
+    def completes_in_bash(self, said):
+        """Whether bash does, without its own package of completions."""
+        line, = re.findall("^bash completes btx after: (.*)$", said, re.MULTILINE)
+        found = self.run_of("bash", "-ec", f"{line}; complete -p btx", env={**self.bare(), "HOME": self.folder})
+        self.assertEqual(self.is_right(found).split()[-1], b"btx")
 
     def contents(self, prefix):
         """All that is under a prefix, by its paths from there."""
@@ -128,6 +136,20 @@ sys.version_info, sys.modules["btx"], sys.modules["building"] = (3, 9, 18, "fina
 runpy.run_path({path!r}, run_name="__main__")"""
             done = self.run_of(sys.executable, "-c", code)
             self.assertEqual((done.returncode, done.stdout, done.stderr.decode()), (status, b"", f"{name}: {needs}\n"))
+
+    def test_the_package_tells_of_an_older_python(self):
+        """In a sentence alone where it is run, and else by an ImportError, also in a module that is run."""
+        self.written("sitecustomize.py", b'import sys\nsys.version_info = (3, 9, 18, "final", 0)\n')
+        caught = "try:\n    import tamligub\nexcept ImportError as fault:\n    print(fault)\n"
+        self.written("other.py", caught.encode())
+        path = os.pathsep.join([self.folder, os.path.join(stand.ROOT, "library", "python")])
+        env = stand.environment(PYTHONPATH=path, PYTHONDONTWRITEBYTECODE="1")
+        said = b"tamligub needs Python 3.10 or a later one, and this is 3.9\n"
+        done = self.run_of(sys.executable, "-m", "tamligub", "check", env=env)
+        self.assertEqual((done.returncode, done.stdout, done.stderr), (127, b"", said))
+        for words in (("-c", caught), ("-m", "other")):
+            done = self.run_of(sys.executable, *words, env=env)
+            self.assertEqual((done.returncode, done.stdout, done.stderr), (0, said, b""))
 
     def test_files_of_others_stay_until_they_are_to_be_replaced(self):
         """Those with the very bytes are no hindrance; a link is one. An uninstall takes all, and what was compiled, but that of others."""
@@ -357,12 +379,28 @@ place.install(False)
             (["btx", "gen", ""], []), (["btx", "archive", "exp"], ["expected"]), (["btx", "completion", ""], ["bash", "zsh", "fish"]),
             (["btx", "png", "-o", "boat.b"], ["boat.btx"]), (["btx", "png", "--scale", "boat.b"], []), (["btx", "gif", "--replay", "2"], ["2400"]),
             (["btx", "terminal", "--signs", "s"], ["sextants", "sixel"]), (["btx", "host", "exp"], ["expected"]), (["btx", "host", "--bits", "9"], ["9600"]),
-            (["btx", "line", "--k"], ["--keys"]), (["btx", "cut", "boat.b"], ["boat.btx"]),
+            (["btx", "line", "--k"], ["--keys"]), (["btx", "cut", "boat.b"], ["boat.btx"]), (["btx", "exp"], ["expected"]),
+            (["btx", "diff", "boat.b"], ["boat.btx"]), (["btx", "diff", "boat.btx", "title.b"], ["title.btx"]),
         ]
         for words, wanted in cases:
-            line = f". {script}; COMP_WORDS=({shlex.join(words)}); COMP_CWORD={len(words) - 1}; _btx; printf '%s\\n' \"${{COMPREPLY[@]}}\""
-            found = self.run_of("bash", "-c", line, cwd=stand.PAGES)
-            self.assertEqual(sorted(self.is_right(found).decode().split()), sorted(wanted), words)
+            self.assertEqual(self.completed_by_bash(script, words, stand.PAGES), sorted(wanted), words)
+
+    def completed_by_bash(self, script, words, folder):
+        """What bash offers for the last of some words in a folder."""
+        line = f". {script}; COMP_WORDS=({shlex.join(words)}); COMP_CWORD={len(words) - 1}; _btx; printf '%s\\n' \"${{COMPREPLY[@]}}\""
+        return sorted(self.is_right(self.run_of("bash", "-c", line, cwd=folder)).decode().split())
+
+    def in_folders(self):
+        """A folder with one in it that has a page, and one that has the name of a word."""
+        for name in ("some", "edit"):
+            os.makedirs(self.path("here", name))
+        shutil.copy(stand.page("title"), self.path("here", "some"))
+        return self.path("here")
+
+    def test_the_completion_of_bash_reaches_a_page_in_a_folder(self):
+        script, folder = self.written("btx.bash", stand.btx("completion", "bash").stdout), self.in_folders()
+        for word, wanted in (("so", ["some"]), ("some/ti", ["some/title.btx"]), ("edi", ["edit", "edit/", "editor"])):
+            self.assertEqual(self.completed_by_bash(script, ["btx", word], folder), wanted)
 
     def test_the_completion_of_zsh(self):
         """By what it hands to the functions of zsh that complete."""
@@ -374,7 +412,9 @@ place.install(False)
             ("word", ["te"], ["terminal:the page in colour in the terminal", "files -g *.btx"]), ("after", ["help", ""], ["archive:"]),
             ("after", ["terminal", ""], ["--reveal[", "--replay[", ":BITS:(1200 2400 9600)", "*:PAGE:_files"]),
             ("after", ["archive", ""], ["--jobs-by[", ":(btx parallel)", "*:FOLDER:_files -/"]),
-            ("after", ["edit", ""], ["-o[", "--output[", ":FILE:_files"]),
+            ("after", ["edit", ""], ["-o[", "--output[", ":FILE:_files"]), ("after", ["diff", ""], ["*:A:_files"]),
+            # What may stand several times is offered again.
+            ("after", ["archive", ""], ["\n*--pattern[", "\n*--sshlogin[", "\n--title["]),
         ):
             found = self.run_of(zsh, "-f", "-c", f"{stubs}; . {script}; asked={asked}; words=({shlex.join(words)}); _btx")
             text = self.is_right(found).decode()
@@ -390,10 +430,18 @@ place.install(False)
             ("btx terminal --replay 1", ["1200"]),
             ("btx show title.b", ["title.btx"]), ("btx title.b", ["title.btx"]), ("btx help ar", ["archive"]), ("btx edit --o", ["--output"]),
             ("btx archive --jobs-by p", ["parallel"]), ("btx completion z", ["zsh"]), ("btx gen ti", []),
+            ("btx diff title.btx boat.b", ["boat.btx"]), ("btx archive --pattern x --pat", ["--pattern"]),
         ):
-            words, env = ["--no-config", "-c", f"source {script}; complete -C '{line}'"], {**self.bare(), "HOME": self.folder}
-            found = self.run_of(fish, *words, cwd=stand.PAGES, env=env)
-            self.assertEqual([one.split("\t")[0] for one in self.is_right(found).decode().splitlines()], wanted, line)
+            self.assertEqual(self.completed_by_fish(fish, script, line, stand.PAGES), wanted, line)
+        folder = self.in_folders()
+        for line, wanted in (("btx so", ["some/"]), ("btx some/ti", ["some/title.btx"])):
+            self.assertEqual(self.completed_by_fish(fish, script, line, folder), wanted, line)
+
+    def completed_by_fish(self, fish, script, line, folder):
+        """What fish offers for a line in a folder."""
+        words, env = ["--no-config", "-c", f"source {script}; complete -C '{line}'"], {**self.bare(), "HOME": self.folder}
+        found = self.run_of(fish, *words, cwd=folder, env=env)
+        return [one.split("\t")[0] for one in self.is_right(found).decode().splitlines()]
 
     def test_each_completion_and_the_manual_know_all_words_and_options(self):
         with open(os.path.join(stand.ROOT, "docs", "btx.1"), encoding="utf-8") as file:
@@ -538,11 +586,32 @@ place.install(False)
         os.symlink(sys.executable, self.path("bin", "python3"))
         done = self.run_of(INSTALL, self.path("prefix"), env=stand.environment(PATH=self.path("bin")), cwd=self.folder)
         share = self.path("prefix", "share")
-        self.assertEqual(self.is_right(done).decode().splitlines()[-3:], [
+        self.assertEqual(self.is_right(done).decode().splitlines()[-5:], [
             f"a desktop knows .btx files after: update-mime-database {share}/mime",
             f"a desktop opens them after: update-desktop-database {share}/applications",
             "update-desktop-database isn't on this machine (Debian: apt-get install desktop-file-utils)",
+            f"it looks there only where its login has: XDG_DATA_DIRS={share}:/usr/local/share:/usr/share",
+            "GNOME makes small pictures by programs within /usr alone: they take a prefix there, such as /usr/local",
         ])
+
+    def test_a_list_that_was_not_written_goes_with_an_uninstall(self):
+        """Of an install that was killed while it wrote that."""
+        os.makedirs(self.path("prefix", "share", "tamligub"))
+        self.written("prefix/share/tamligub/installed.tamligub-new", b"bin/b")
+        done = self.run_of(INSTALL, "--uninstall", self.path("prefix"))
+        self.assertEqual((done.returncode, self.contents(self.path("prefix"))), (1, ["share"]))
+
+    def test_folders_above_a_prefix_go_with_an_uninstall(self):
+        """Those that the install made, and that are empty."""
+        os.mkdir(self.path("stood"))
+        prefix = self.path("stood", "one", "two")
+        kept: tuple[list[str], ...] = ([], ["stood/one", "stood/one/others"])
+        for others in kept:
+            self.is_right(self.run_of(INSTALL, prefix, env=stand.environment(), cwd=self.folder))
+            if others:
+                self.written(others[1], b"")
+            self.is_right(self.run_of(INSTALL, "--uninstall", prefix))
+            self.assertEqual(self.contents(self.folder), sorted(["stood", *others]))
 
     def test_a_package_where_nothing_may_be_written(self):
         self.needs("dpkg", "dpkg-deb")

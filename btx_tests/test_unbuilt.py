@@ -114,7 +114,23 @@ class Unbuilt(stand.Case):
 
     def test_an_install_without_library_and_module_says_what_builds_them(self):
         shutil.copy(stand.program, self.executable(os.path.join(self.tree, "crates/cept_tool/out/cept_tool"), ""))
-        status, _, error = self.run_of("install", self.path("prefix"))
-        self.assertEqual(status, 0, error)
-        for what in ("the library for C", "the module for the web"):
-            self.assertRegex(error, f"install: {what} isn't built, and is left out; .*/build builds both, in about .* minutes")
+        kit, more = "the Rattle kit with its command rt", "wasm-opt (Debian: apt-get install binaryen)"
+        for env, lacks in ((self.with_kit, ("", "")), (self.without_kit, (kit, f"{kit} and {more}"))):
+            status, _, error = self.run_of("install", self.path("prefix"), env=env)
+            self.assertEqual((status, error), (0, self.said_of_parts(*lacks)))
+
+    def said_of_parts(self, *lacks):
+        """What an install says of library and module, of which each needs what this machine lacks."""
+        build = f"{self.tree}/build builds it, in about 40 minutes on four processors"
+        needs = [f"; that needs {one}, which this machine doesn't have" if one else "" for one in lacks]
+        parts = zip(("the library for C", "the module for the web"), needs)
+        return "".join(f"install: {what} isn't built, and is left out; {build}{need}\n" for what, need in parts)
+
+    def test_packages_without_library_and_module_say_it_too(self):
+        dpkg, _ = self.needs("dpkg-deb", "dpkg")
+        shutil.copy(stand.program, self.executable(os.path.join(self.tree, "crates/cept_tool/out/cept_tool"), ""))
+        shutil.copytree(os.path.join(stand.ROOT, "debian"), os.path.join(self.tree, "debian"))
+        env = {**self.with_kit, "PATH": f"{self.with_kit['PATH']}:{os.path.dirname(dpkg)}:{os.environ['PATH']}"}
+        status, output, error = self.run_of("install", "--deb", self.path("deb"), env=env)
+        self.assertEqual((status, error), (0, self.said_of_parts("", "")))
+        self.assertEqual([os.path.basename(one).partition("_")[0] for one in output.decode().splitlines()], ["tamligub"])

@@ -76,7 +76,7 @@ def for_python(place, _):
 PACKAGES = {
     "tamligub": (program, None, "utils", {
         "Depends": f"libc6 (>= {{libc}}), {PYTHON}", "Recommends": "chromium, libtamligub1 (= {version}), man-db, python3-pil",
-        "Suggests": "bash-completion, parallel, python3-websockets, shared-mime-info, xdg-utils",
+        "Suggests": "bash-completion, desktop-file-utils, parallel, python3-websockets, shared-mime-info, xdg-utils",
     }, """decoder and page editor for Bildschirmtext pages
  Shows stored pages in a terminal, in a browser and as pictures, makes a website
  of a collection, checks pages and edits them.

@@ -28,10 +28,18 @@ LISTS = (
     "version",
 )
 TYPE = "application/x-bildschirmtext.xml"
+# Where a desktop looks if nothing says otherwise.
+SHARED = "/usr/local/share:/usr/share"
 ALL = (
     Notes("knows .btx files", "update-mime-database", "shared-mime-info", "share/mime", "packages/*.xml", (*LISTS, TYPE)),
     Notes("opens them", "update-desktop-database", "desktop-file-utils", "share/applications", "**/*.desktop", ("mimeinfo.cache",)),
 )
+
+
+def searched():
+    """The folders in which a desktop looks, as its login has them or else by the standard of the XDG base directories."""
+    own = os.environ.get("XDG_DATA_HOME") or os.path.expanduser("~/.local/share")
+    return [own, *(os.environ.get("XDG_DATA_DIRS") or SHARED).split(os.pathsep)]
 
 
 def made_known(prefix):
@@ -40,6 +48,11 @@ def made_known(prefix):
         yield f"a desktop {notes.does} after: {notes.line(prefix)}"
         if not shutil.which(notes.command):
             yield f"{notes.command} isn't on this machine (Debian: apt-get install {notes.package})"
+    share = os.path.join(prefix, "share")
+    if share not in [os.path.normpath(one) for one in searched()]:
+        yield f"it looks there only where its login has: XDG_DATA_DIRS={shlex.quote(share)}:{SHARED}"
+    if not f"{prefix}/".startswith("/usr/"):
+        yield "GNOME makes small pictures by programs within /usr alone: they take a prefix there, such as /usr/local"
 
 
 def forget(prefix):

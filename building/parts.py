@@ -9,6 +9,7 @@ from building import ROOT, shared, shipped
 
 NAME = "tamligub"
 OUT = os.path.join(ROOT, "library", "out")
+MODULE = os.path.join(OUT, "tamligub.wasm")
 DOCUMENTS = f"share/doc/{NAME}"
 # Files that a document names: other documents, pictures, and programs in C with the header.
 NAMED = re.compile(r"[\w./-]+\.(?:md|png|c|h)\b")
@@ -87,12 +88,15 @@ def put_program(tree, binary):
     put_desktop(tree)
 
 
+def has_module():
+    """Whether the module for the web was made."""
+    return os.path.exists(MODULE)
+
+
 def put_module(tree):
-    """Puts the module for the web where `btx viewer` and `btx editor` look for it. Answers whether it was made."""
-    made = os.path.join(OUT, "tamligub.wasm")
-    if os.path.exists(made):
-        tree.copy(f"share/{NAME}/{shipped.MODULE}", made)
-    return os.path.exists(made)
+    """Puts the module for the web, where it was made, where `btx viewer` and `btx editor` look for it."""
+    if has_module():
+        tree.copy(f"share/{NAME}/{shipped.MODULE}", MODULE)
 
 
 def is_built():

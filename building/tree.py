@@ -1,5 +1,6 @@
 """A tree of files under a prefix, with a list of what was put there, by which it is taken away."""
 import contextlib
+import itertools
 import os
 import shutil
 from typing import NamedTuple
@@ -66,15 +67,17 @@ class Tree:
 
     def path(self, place):
         """The path of a place; the prefix itself is the one without a name."""
-        return os.path.join(self.prefix, place) if place else self.prefix
+        return path_of(self.prefix, place)
 
     def folders(self):
         """The folders that are needed, outer ones first."""
         return dict.fromkeys(folder for place in (*self.files, LIST) for folder in above(place))
 
     def missing(self):
-        """The folders that are needed and aren't there, outer ones first."""
-        return [folder for folder in self.folders() if not os.path.isdir(self.path(folder))]
+        """The folders that are needed and aren't there, outer ones first; those in which the prefix is to be too."""
+        around = ("/".join([".."] * count) for count in itertools.count(1))
+        outer = list(itertools.takewhile(lambda place: not os.path.isdir(self.path(place)), around))
+        return [*reversed(outer), *(folder for folder in self.folders() if not os.path.isdir(self.path(folder)))]
 
     def check(self, known, replaces):
         """Refuses a prefix where a folder stands in the place of a file, or a file in that of a folder. Unless these are to be replaced,
@@ -128,6 +131,11 @@ class Tree:
         self.put_list(self.files, [*folders, *made])
 
 
+def path_of(prefix, place):
+    """The path of a place, which is the prefix, below it, or as .. above it."""
+    return os.path.normpath(os.path.join(prefix, place))
+
+
 def above(place):
     """The folders that a place is in, outer ones first; the prefix is the one without a name."""
     names = place.split("/")[:-1]
@@ -166,11 +174,17 @@ def take_away(prefix, files, folders):
     """Takes files away, and the folders in which nothing is left."""
     for place in files:
         with contextlib.suppress(FileNotFoundError):
-            os.remove(os.path.join(prefix, place))
+            os.remove(path_of(prefix, place))
     for place in reversed(folders):
-        path = os.path.join(prefix, place)
+        path = path_of(prefix, place)
         if os.path.isdir(path) and not os.listdir(path):
             os.rmdir(path)
+
+
+def take_begun(prefix):
+    """Takes away the list of an install that ended before it was written, with the folder that has nothing else."""
+    if os.path.isfile(path_of(prefix, LIST + NEW)):
+        take_away(prefix, [LIST + NEW], [os.path.dirname(LIST)])
 
 
 def take_compiled(prefix, folders):
