@@ -50,6 +50,11 @@ def fault_of(options: argparse.Namespace) -> Fault | None:
     out, folder = options.output, options.folder
     if not out or not folder:
         return Status.USAGE, f"the name of the {'website' if folder else 'collection'} is empty"
+    if "" in options.pattern:
+        return Status.USAGE, "a pattern is empty, and no file has such a name; --pattern '*.btx' takes those that end in .btx"
+    of_folders = next((pattern for pattern in options.pattern if "/" in pattern), None)
+    if of_folders:
+        return Status.USAGE, f"{of_folders}: a pattern is of names without their folders, as --pattern '{os.path.basename(of_folders)}'"
     if os.path.exists(out) and not os.path.isdir(out):
         return Status.USAGE, f"{html_file.shown_name(out)} is no folder, and the website needs one"
     if options.jobs_by != "parallel" and (options.sshlogin or options.remote):
@@ -58,6 +63,9 @@ def fault_of(options: argparse.Namespace) -> Fault | None:
         return Status.USAGE, f"{html_file.shown_name(out)} is in the collection; the website needs a folder outside of it"
     if any(is_inside(folder, os.path.join(out, kind)) for kind in website.FOLDERS):
         return Status.USAGE, f"{html_file.shown_name(folder)} is a folder that the website takes for itself"
+    if website.is_foreign(out):
+        said = "has other files in it, which stay; the website needs a new or empty folder, or one that archive has made"
+        return Status.UNREAD, f"{html_file.shown_name(out)} {said}"
     if options.jobs_by == "parallel" and not shutil.which("parallel"):
         return NOT_THERE, "GNU parallel isn't on this machine (Debian: apt-get install parallel)"
     return None
@@ -65,7 +73,7 @@ def fault_of(options: argparse.Namespace) -> Fault | None:
 
 def known(site: website.Website, here: collection.Collection, name: str) -> making.Facts | None:
     """The facts of a page that is made already of the very bytes that it has, or None."""
-    facts = None if site.lacks(name) else site.facts(name)
+    facts = site.whole(name)
     try:
         return facts if facts and making.sum_of(making.stored(here.path(name))) == facts.sha256 else None
     except making.Unread:
@@ -172,5 +180,5 @@ def run(path: program.Runner, options: argparse.Namespace) -> int:
     lacking = archive.make(path)
     archive.told()
     if lacking:
-        say(f"{lacking:,} pages were not made; the same command goes on with them")
+        say(f"{lacking:,} pages were not made{jobs.needs(options)}; the same command goes on with them")
     return Status.NO_ROOM if lacking else 0

@@ -30,6 +30,8 @@ OWN: dict[str, Own] = {
     "completion": completion,
 }
 KNOWN = (*program.WORDS, *OWN, "help")
+# The options that stand without a word.
+ALONE = ("-h", "--help", "--version")
 # Words that do without the program, and are given an empty path.
 BY_THEMSELVES = ("viewer", "editor", "line", "cut", "host", "completion")
 EPILOG = """The words of the program pass through with its output and its status; what a status means is said on standard error.
@@ -113,21 +115,31 @@ def is_page(word: str) -> bool:
 
 
 def spelled(words: Sequence[str]) -> Sequence[str]:
-    """The words in full: a page alone is shown, and help is asked of the word itself."""
-    if words[0] == "help":
-        return [*words[1:2], "--help"] if words[1:] != ["help"] else ["--help"]
-    return ["terminal", *words] if words[0] not in KNOWN and not words[0].startswith("--") and is_page(words[0]) else words
+    """The words in full: a page alone is shown, also after --, and help is asked of the word itself."""
+    first, rest = words[0], words[1:]
+    if first == passing.NAMES_FOLLOW:
+        return spelled(rest) if rest[0] in KNOWN else ["terminal", *words]
+    if first == "help" and len(rest) < 2:
+        return [*rest, "--help"] if rest != ["help"] else ["--help"]
+    return ["terminal", *words] if first not in KNOWN and not first.startswith("--") and is_page(first) else words
 
 
 def run(words: Sequence[str], beside: str) -> int:
     parser = parsers()
-    if not words:
+    if not words or words == [passing.NAMES_FOLLOW]:
         parser.print_help(sys.stderr)
         return 2
     words = spelled(words)
     word, rest = words[0], words[1:]
     if word in program.WORDS and rest[:1] not in (["--help"], ["-h"]):
         return guarded(program_for(beside), word, passing.run, word, rest)
+    if word == "help":
+        say(f"help: takes one word after it, WORD, or none, and not {len(rest)}\nusage: btx help [WORD]")
+        return 2
+    if word.startswith("-") and word not in ALONE:
+        said = "btx itself has --help and --version, and options of a word or a page stand behind it, as in btx PAGE --reveal"
+        say(f"{word} stands first: {said}\nbtx --help lists the words")
+        return 2
     if not word.startswith("-") and word not in KNOWN:
         return unknown(word)
     if words == jobs.WORKER:

@@ -1,6 +1,6 @@
 """Writes the completion of btx for a shell: its words, the options of each with their values, and files. Of a checkout
 . <(bin/btx completion bash) loads it, in zsh likewise after compinit; bin/btx completion fish | source does so in fish. An install keeps
-all three where the shells look for them under /usr and /usr/local, and says what zsh takes under another prefix."""
+all three, and says by which line a shell loads its own where it doesn't look by itself."""
 import argparse
 from collections.abc import Iterator, Sequence
 
@@ -9,13 +9,14 @@ FILES, FOLDERS, NOTHING = "files", "folders", "nothing"
 # What can stand for a value of a name: files, folders, or some that are usual. Of any other name nothing is known.
 Values = str | tuple[str, ...]
 VALUES: dict[str, Values] = {
-    "FILE": FILES, "MODULE": FILES, "PAGE": FILES, "SCRIPT": FILES, "DRAWING": FILES, "FOLDER": FOLDERS, "OUT": FOLDERS, "RECORDING": FILES,
+    **dict.fromkeys(("FILE", "MODULE", "PAGE", "SCRIPT", "DRAWING", "RECORDING", "A", "B"), FILES), "FOLDER": FOLDERS, "OUT": FOLDERS,
     "BITS": ("1200", "2400", "9600"), "TIMES": ("1", "2", "4"), "PHASE": ("0", "1", "2", "3", "4", "5"),
 }
 
 
 class Option:
-    """An option of a word: its names, what it does, the name of its value if it has one, and what can stand there."""
+    """An option of a word: its names, what it does, the name of its value if it has one, what can stand there, and whether it may stand
+    several times."""
 
     def __init__(self, action: argparse.Action) -> None:
         self.short = [name for name in action.option_strings if not name.startswith("--")]
@@ -23,6 +24,7 @@ class Option:
         self.help = action.help or ""
         self.value = None if action.nargs == 0 else action.metavar or "VALUE"
         self.values = values_of(action)
+        self.is_repeated = isinstance(action, argparse._AppendAction)
 
 
 class Word:
@@ -78,7 +80,11 @@ _btx() {
     local word=${COMP_WORDS[COMP_CWORD]} before=${COMP_WORDS[COMP_CWORD-1]} words="@words@"
     COMPREPLY=()
     if [ "$COMP_CWORD" -eq 1 ]; then
-        mapfile -t COMPREPLY < <(compgen -W "$words help --help --version" -- "$word"; compgen -f -X '!*.btx' -- "$word")
+        mapfile -t COMPREPLY < <(compgen -W "$words help --help --version" -- "$word")
+        # Beside words a folder has its slash here, so that none is taken for a word; without, the shell quotes names and gives slashes.
+        local slash=/ count=${#COMPREPLY[@]}
+        [ "$count" -gt 0 ] || { slash=; compopt -o filenames 2> /dev/null; }
+        mapfile -t -O "$count" COMPREPLY < <(compgen -f -X '!*.btx' -- "$word"; compgen -d -S "$slash" -- "$word")
         return
     fi
     case ${COMP_WORDS[1]}:$before in
@@ -120,8 +126,9 @@ def zsh_values(values: Values) -> str:
 def zsh_option(option: Option) -> str:
     """The specification of an option, for each of its names."""
     value = f":{option.value}:{zsh_values(option.values)}" if option.value else ""
+    again = "*" if option.is_repeated else ""
     described = f"{quoted('[' + option.help.replace('[', '(').replace(']', ')') + ']', ':')[1:-1]}"
-    return " ".join(f"'{name}{described}{value}'" for name in option.short + option.long)
+    return " ".join(f"'{again}{name}{described}{value}'" for name in option.short + option.long)
 
 
 def zsh_word(word: Word) -> str:

@@ -2,14 +2,21 @@
 decoder writes of the state in which it begins, as far as that isn't the one of a decoder that was just opened, so that it stands alone.
 btx archive takes the folder."""
 import argparse
+import contextlib
+import itertools
 import os
 import re
-from collections.abc import Iterator
+import sys
+from collections.abc import Iterator, Sequence
+from typing import IO, NamedTuple
 
 from btx import collection, files, live, looks, recording, say
+from btx.statuses import Status
 
 SUMMARY = "the pages of a recording of a line"
 PAUSE = 1
+# A recording has no more bytes than a decoder takes, and is read in pieces.
+MOST_RECORDED, PIECE = 2**32, 2**20
 # The clear of the screen, and full defaults, which clear it too.
 CLEARS = re.compile(rb"\x0c|\x1f\x2f[\x41\x42]")
 # The sets G0 to G3 and the shifts at the start, with what designates a set and locks a shift; the sets are numbered P, S, M, N, D.
@@ -27,7 +34,7 @@ def arguments(parser: argparse.ArgumentParser) -> None:
     parser.add_argument("-o", "--output", metavar="FOLDER", required=True, help="where the pages go; it is made where it isn't there")
     parser.add_argument("--pause", type=recording.seconds, default=PAUSE, metavar="SECONDS",
                         help=f"how long a pause is, after which a clear begins a page; 0 is none, and without it {PAUSE}")
-    parser.add_argument("--no-keys", action="store_true", help="a clear after a key begins no page")
+    parser.add_argument("--no-keys", action="store_true", help="keys don't count: only a clear after a pause begins a page")
     parser.add_argument("--all", action="store_true", help="each clear begins a page, and no times are read")
 
 
@@ -76,6 +83,21 @@ def after(*pieces: bytes) -> Kept:
         return kept(decoder)
 
 
+class Page(NamedTuple):
+    """A page that is cut: what it has before it, and where in the recording the rest begins and ends."""
+
+    front: bytes
+    start: int
+    end: int
+
+    def of(self, data: bytes) -> bytes:
+        """The bytes of the page, of those of the recording."""
+        return self.front + data[self.start : self.end]
+
+    def is_too_long(self) -> bool:
+        return len(self.front) + self.end - self.start > files.MOST_PAGE
+
+
 class Part:
     """A part of a recording that becomes a page: where it begins and ends, what it needs before it, or None where no bytes bring that back,
     and the cells at its end."""
@@ -84,10 +106,10 @@ class Part:
         self.start, self.front, self.end = start, front, start
         self.cells: looks.Cells = {}
 
-    def page(self, data: bytes) -> bytes:
+    def page(self, data: bytes) -> Page:
         """The page. One that wouldn't show the same by itself has all of the recording before it."""
-        page = None if self.front is None else self.front + data[self.start : self.end]
-        return page if page is not None and shown(page) == self.cells else data[: self.end]
+        page = None if self.front is None else Page(self.front, self.start, self.end)
+        return page if page is not None and shown(page.of(data)) == self.cells else Page(b"", 0, self.end)
 
 
 class Cutter:
@@ -136,24 +158,60 @@ def shown(data: bytes) -> looks.Cells:
     return cells_at_end(decoder)
 
 
-def made(options: argparse.Namespace) -> list[bytes]:
+def recorded(name: str) -> bytes:
+    """The bytes of a recording, which may be far more than those of a page."""
+    if files.is_plain(name) and os.path.getsize(name) > MOST_RECORDED:
+        raise live.Full
+    with contextlib.ExitStack() as stack:
+        file: IO[bytes] = sys.stdin.buffer if name == files.STANDARD else stack.enter_context(open(name, "rb"))
+        pieces = iter(lambda: file.read(PIECE), b"")
+        data = b"".join(itertools.islice(pieces, MOST_RECORDED // PIECE + 1))
+    if len(data) > MOST_RECORDED:
+        raise live.Full
+    return data
+
+
+def made(options: argparse.Namespace, data: bytes) -> list[Page]:
     """The pages of a recording; what came before the first clear is one, where something came."""
-    data = files.read(options.recording, files.MOST_PAGE)
-    parts = list(Cutter(data, live.Live(), Arms(options)).parts())
+    parts = Cutter(data, live.Live(), Arms(options)).parts()
     return [part.page(data) for part in parts if part.end > part.start]
+
+
+def write(pages: Sequence[Page], data: bytes, options: argparse.Namespace) -> int:
+    """Writes the pages, each by its number, and answers the status. Of those that are too long for a page it says so."""
+    folder, digits, count = options.output, len(str(len(pages))), 0
+    hint = "" if options.all else "; --all begins a page at each clear"
+    for number, page in enumerate(pages, 1):
+        name = f"{number:0{digits}}.btx"
+        if page.is_too_long():
+            say(f"cut: {name} would have more than {files.MOST_PAGE:,} bytes, and is left out{hint}")
+            continue
+        with files.output(os.path.join(folder, name)) as file:
+            file.write(page.of(data))
+        count += 1
+    say(f"cut: {collection.several(count, 'page')} in {folder}")
+    return Status.DONE if count == len(pages) else Status.TOO_LONG
 
 
 def run(_: object, options: argparse.Namespace) -> int:
     live.library()
-    if not options.all and not os.path.exists(options.recording + recording.TIMES) and os.path.exists(options.recording):
-        raise OSError(0, f"it has no times beside it, {os.path.basename(options.recording)}{recording.TIMES}; --all does without", options.recording)
-    pages, folder = made(options), options.output
+    name, folder = options.recording, options.output
+    if os.path.isdir(name):
+        raise OSError(0, "it is a folder, and a recording is a file", name)
+    if name.endswith(recording.TIMES) and os.path.isfile(name.removesuffix(recording.TIMES)):
+        raise OSError(0, f"these are the times of a recording, which is {os.path.basename(name).removesuffix(recording.TIMES)}", name)
+    if not options.all and not os.path.exists(name + recording.TIMES) and os.path.exists(name):
+        raise OSError(0, f"it has no times beside it, {os.path.basename(name)}{recording.TIMES}; --all does without", name)
+    try:
+        data = recorded(name)
+        pages = made(options, data)
+    except live.Full:
+        say(f"cut: {name}: the recording has more than {MOST_RECORDED:,} bytes; head -c {MOST_RECORDED} makes a front of it that can be cut")
+        return Status.TOO_LONG
+    except MemoryError:
+        say(f"cut: {name}: there is not enough memory for so long a recording; head -c makes a front of it")
+        return Status.NO_MEMORY
     os.makedirs(folder, exist_ok=True)
-    if any(name.endswith(".btx") for name in os.listdir(folder)):
+    if any(one.endswith(".btx") for one in os.listdir(folder)):
         raise OSError(0, "there are pages in it already", folder)
-    digits = len(str(len(pages)))
-    for number, page in enumerate(pages, 1):
-        with files.output(os.path.join(folder, f"{number:0{digits}}.btx")) as file:
-            file.write(page)
-    say(f"cut: {collection.several(len(pages), 'page')} in {folder}")
-    return 0
+    return write(pages, data, options)

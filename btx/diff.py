@@ -6,7 +6,8 @@ import shutil
 import sys
 from collections.abc import Iterator, Sequence
 
-from btx import files, looks, program, terminal
+from btx import files, looks, program, say, terminal
+from btx.statuses import Status
 
 SUMMARY = "the cells in which the screens of two pages differ"
 SAME, DIFFERENT = 0, 1
@@ -48,6 +49,9 @@ def screen_of(path: program.Runner, page: str) -> Texts:
 
 
 def run(path: program.Runner, options: argparse.Namespace) -> int:
+    if options.first == options.second == files.STANDARD:
+        say("diff: standard input is one page, and - stands more than once")
+        return Status.USAGE
     files.write_utf8(newline="\n")
     screens = [screen_of(path, page) for page in (options.first, options.second)]
     different = list(differing(*screens))

@@ -48,9 +48,18 @@ def of_signs(line: str) -> str:
     return "; ".join(of_sign(before + place, sign) for place, sign in letters.unknown_in(text))
 
 
+def short(text: str) -> str:
+    """A text as it is shown, or the beginning of a long one."""
+    shown = typed.shown(text)
+    return shown if len(shown) <= LONGEST else shown[:LONGEST] + "…"
+
+
 def of_word(word: str, kind: str) -> str:
+    other, _ = OTHERS[kind]
+    if word in grammar.WORDS[other]:
+        return f"{word} is no word of {kind}s, but of {other}s"
     near_one = near.nearest(word, grammar.WORDS[kind])
-    return f"{typed.shown(word)} is no word of {kind}s" + (f"; the nearest is {near_one}" if near_one else "")
+    return f"{short(word)} is no word of {kind}s" + (f"; the nearest is {near_one}" if near_one else "")
 
 
 def of_count(word: str, values: Sequence[str], kind: str) -> str:
@@ -64,7 +73,7 @@ def of_number(number: grammar.Number, value: str) -> str:
     """What is wrong with a number, or nothing."""
     taken = grammar.range_of(number)
     if not (value.isascii() and value.isdigit() and len(value) <= 2):
-        return f"{number.name} is {typed.shown(value)}, and takes a number of one or two digits, {taken}"
+        return f"{number.name} is {short(value)}, and takes a number of one or two digits, {taken}"
     good = number.least <= int(value) <= number.most and int(value) not in number.without
     return "" if good else f"{number.name} is {value}, and takes {taken}"
 
@@ -82,7 +91,7 @@ def of_digits(digits: str, before: int) -> str:
     other = next((place for place, digit in enumerate(digits, 1) if digit not in string.hexdigits), None)
     if other:
         return f"sign {before + other} is {typed.shown(digits[other - 1])}, which is no hexadecimal digit"
-    return f"raw takes two digits for each byte, and here stand {len(digits)}" if len(digits) % 2 else ""
+    return f"raw takes two digits for each byte, and here it has {len(digits)}" if len(digits) % 2 else ""
 
 
 def of_bytes(path: program.Runner, digits: str) -> str:
@@ -149,8 +158,7 @@ def told(path: program.Runner, name: str, data: bytes, kind: str) -> list[str]:
     """A sentence for each line that the program refuses: its number, what is wrong with it, and its beginning."""
     sentences = []
     for number, fault, line in all_of(path, data, kind):
-        text = typed.shown(line)
-        sentences.append(f"{typed.shown(name)}, line {number}: {fault}: {text if len(text) <= LONGEST else text[:LONGEST] + '…'}")
+        sentences.append(f"{typed.shown(name)}, line {number}: {fault}: {short(line)}")
     return sentences
 
 

@@ -39,7 +39,14 @@ class Pages:
         if not self.names:
             self.names = {(str(number), ""): name for number, name in enumerate(names)}
         if self.first() is None:
-            raise OSError(0, "no file in it ends in .btx", folder)
+            raise OSError(0, self.why_none(), folder)
+
+    def why_none(self) -> str:
+        """Why there is no first page."""
+        if not self.names:
+            return "no file in it ends in .btx"
+        (number, _), name = next(iter(self.names.items()))
+        return f"no page in it has its first part; {name} is a later one, after {number}.btx"
 
     def listed(self) -> list[str]:
         """The numbers with the names, in order, where these don't say them."""

@@ -148,7 +148,7 @@ async def listen(options: argparse.Namespace) -> None:
     address, chosen = server.sockets[0].getsockname()[:2]
     speed = f"{options.bits} bit/s" if options.bits else "at once"
     where, near = named(address, chosen), named(NEAR.get(address, address), chosen)
-    guest_of = f"a browser shows it at http://{near}/" if options.web else f"a guest: {program.command()} line {near}"
+    guest_of = web.shown_at(near) if options.web else f"a guest: {program.command()} line {near}"
     say(f"host: {'ws://' if options.web else ''}{where}, {speed}; a test bench, and no service; {guest_of}")
     await asyncio.Event().wait()
 

@@ -17,6 +17,8 @@ from btx import collection, making, program
 from btx.website import Website
 
 WORKER = ["archive", "--worker"]
+# The login by which parallel knows this machine.
+HERE = ":"
 PAGES_A_JOB = 8
 # So many pages a job are handed over before they are begun.
 AHEAD = 4
@@ -73,12 +75,24 @@ def own_command(beside: str) -> str:
     return shlex.quote(path) if os.path.exists(path) else f"{shlex.quote(sys.executable)} -m tamligub"
 
 
+def remote(options: argparse.Namespace) -> str:
+    """How btx is called on the machines."""
+    return options.remote or ("btx" if set(options.sshlogin) - {HERE} else own_command(options.beside))
+
+
+def needs(options: argparse.Namespace) -> str:
+    """What parallel needs of its machines where pages are lacking; nothing without it."""
+    if options.jobs_by != "parallel":
+        return ""
+    command = f"start btx by the command {remote(options)}, which --remote can change"
+    return f", and parallel says why: each machine must let you in without a question, and {command}"
+
+
 def parallel_words(options: argparse.Namespace) -> list[str]:
     """The words that start GNU parallel."""
-    remote = options.remote or ("btx" if options.sshlogin else own_command(options.beside))
     machines = itertools.chain.from_iterable(["--sshlogin", login] for login in options.sshlogin)
     jobs = ["--jobs", str(options.jobs)] if options.jobs else []
-    return ["parallel", "--will-cite", "--pipe", "-N", str(PAGES_A_JOB), *jobs, *machines, f"{remote} {shlex.join(WORKER)}"]
+    return ["parallel", "--will-cite", "--pipe", "-N", str(PAGES_A_JOB), *jobs, *machines, f"{remote(options)} {shlex.join(WORKER)}"]
 
 
 def by_parallel(website: Website, here: collection.Collection, names: Sequence[str], words: Sequence[str]) -> Iterator[Result]:

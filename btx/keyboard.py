@@ -16,7 +16,10 @@ NUMBERED = {
 CONTROLS = {"\r": "return", "\n": "return", "\t": "tab", "\x08": "backspace", "\x7f": "backspace", "\x1b": "escape"}
 # Names of signs that a table can't have as they are.
 SIGNS = {"space": " ", "hash": "#"}
-NAMES = sorted({*ARROWS.values(), *NUMBERED.values(), *CONTROLS.values(), *SIGNS, *(f"ctrl-{chr(code)}" for code in range(0x61, 0x7B))})
+# By each letter with control what a terminal sends for it, and the names of those that it sends for another key.
+LETTERS = {f"ctrl-{chr(code + 0x60)}": chr(code) for code in range(1, 27)}
+SHARED = {key: CONTROLS[sign] for key, sign in LETTERS.items() if sign in CONTROLS}
+NAMES = sorted({*ARROWS.values(), *NUMBERED.values(), *CONTROLS.values(), *SIGNS, *(LETTERS.keys() - SHARED.keys())})
 # What a key sends: bytes, or LEAVE; and that of each key by its name or its sign.
 Sent = bytes | str
 Table = dict[str, Sent]
@@ -70,6 +73,8 @@ def entry(line: str) -> tuple[str, Sent]:
     """The key and the bytes of a line of a table, or why it is none."""
     key, _, words = line.partition(" ")
     key = SIGNS.get(key, key)
+    if key in SHARED:
+        raise ValueError(f"{key} comes as {SHARED[key]}, which is its name here")
     if len(letters.signs_in(key)) > 1 and key not in NAMES:
         nearest = near.nearest(key, NAMES)
         raise ValueError(f"{key} is no key" + (f"; the nearest is {nearest}" if nearest else ""))

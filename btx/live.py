@@ -67,7 +67,8 @@ def missing() -> program.Missing:
     if named:
         return program.Missing(f"{shared.VARIABLE} is {named}, and no library is there")
     if not os.path.exists(program.BUILD):
-        return program.Missing(f"the decoder's library isn't installed beside {BESIDE[1]}; {shared.VARIABLE} can name it")
+        ways = f"the package libtamligub1 has it, and so has ./install of a checkout that is built; {shared.VARIABLE} can name it"
+        return program.Missing(f"the decoder's library isn't installed: {ways}")
     ways = f"{program.PROVES}{program.build_needs('rt')}; {shared.VARIABLE} can name one"
     return program.Missing(f"the decoder's library isn't built: {ways}")
 

@@ -119,12 +119,18 @@ def line_of(shown: Mapping[looks.Place, str], cells: looks.Cells, row: int) -> s
     return " ".join("".join(shown.get(place, " ") for place in places if not cells.get(place, looks.BLANK).right).split())
 
 
+def is_most_of(part: str, line: str) -> bool:
+    """Whether a part of a line has more of its signs than the rest of it; blanks are none."""
+    return 2 * len(part.replace(" ", "")) > len(line.replace(" ", ""))
+
+
 def title_of(cells: looks.Cells) -> str:
-    """The first line of double size, else the first line; empty where there is no text."""
+    """What is of double size in the first line in which most signs are, else the first line; empty where there is no text."""
     shown = shown_signs(cells)
     large = {place: sign for place, sign in shown.items() if cells[place].high > 1 or cells[place].wide > 1}
-    lines = (line_of(some, cells, row) for some in (large, shown) for row in range(1, looks.ROWS + 1))
-    return next(filter(None, lines), "")
+    lines = [(line_of(large, cells, row), line_of(shown, cells, row)) for row in range(1, looks.ROWS + 1)]
+    headings = [heading for heading, line in lines if is_most_of(heading, line)]
+    return next(filter(None, [*headings, *(line for _, line in lines)]), "")
 
 
 @contextlib.contextmanager

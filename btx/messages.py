@@ -11,6 +11,7 @@ from btx.statuses import Status
 MOST_PAGE, MOST_SCRIPT = files.MOST_PAGE, typed.MOST
 OUTPUT = 1
 COUNTS = {1: "one", 2: "two"}
+EMPTY = "a name is empty"
 is_file = files.is_plain
 
 
@@ -102,7 +103,7 @@ def no_request(run: Run) -> str:
     if len(words) != len(wanted):
         reason = of_count(word, words, wanted)
     elif "" in words:
-        reason = "a name is empty"
+        reason = EMPTY
     elif wanted[-1] == "NUMBER":
         reason = f"{words[-1]} is no number from 0 to {library.MOST[word]} in one to ten digits"
     elif len(set(words)) < len(words):
@@ -110,6 +111,12 @@ def no_request(run: Run) -> str:
     else:
         reason = not_utf8(word, words) or "the words can't be read"
     return f"{word}: {reason}\n{usage(word)}"
+
+
+def no_name(word: str, words: Sequence[str]) -> str:
+    """Why a page that was given to a word of btx itself has no name that the program takes."""
+    reason = EMPTY if "" in words else not_utf8(word, words) or "the program takes no such name"
+    return f"{word}: {reason}"
 
 
 def bad_lines(run: Run) -> str:
@@ -162,7 +169,8 @@ def reader_is_gone() -> bool:
 
 
 def not_seven(run: Run) -> str:
-    return f"{run.word}: {run.words[0]}: this is no page in seven bits; only what stands before its first wrong byte was written"
+    rest = "" if run.given.out else "; only what stands before its first wrong byte was written"
+    return f"{run.word}: {run.words[0]}: this is no page in seven bits{rest}"
 
 
 # What each status means; empty where nothing is to be said.

@@ -10,14 +10,24 @@ from btx import files, messages, program, say, typed
 from btx.statuses import READ, Status
 
 OUTPUT = ("-o", "--output")
+# The end of the options.
+NAMES_FOLLOW = "--"
+
+
+def as_name(word: str) -> str:
+    """A word after the end of the options as a name that nothing takes for an option; - is standard input there too."""
+    return f"./{word}" if word.startswith("-") and word != files.STANDARD else word
 
 
 def parted(words: Sequence[str]) -> tuple[list[str], str | None]:
-    """The words without -o and its file, and that file: None where none is named, and empty where its name is missing."""
-    rest, out = [], None
-    left = iter(words)
+    """The words without -o and its file, and that file: None where none is named, and empty where its name is missing. After -- all are
+    names."""
+    rest: list[str] = []
+    out, left = None, iter(words)
     for one in left:
-        if one in OUTPUT:
+        if one == NAMES_FOLLOW:
+            rest += map(as_name, left)
+        elif one in OUTPUT:
             out = next(left, "")
         elif one.startswith("--output="):
             out = one.partition("=")[2]
@@ -101,6 +111,7 @@ def run(path: program.Runner, word: str, words: Sequence[str]) -> int:
     if out is None and are_bytes(word, words) and os.isatty(messages.OUTPUT):
         say(f"{word}: a terminal shows no page's bytes; -o FILE writes them into a file")
         return 2
+    out = None if out == files.STANDARD else out
     named = messages.files_of(word, words) if are_request(word, words) else []
     with files.patience(*named), given(word, words, out) as handed:
         status = put(path, word, handed.words, out)

@@ -12,8 +12,8 @@ def of_end(path: program.Runner, word: str, end: program.Ended) -> int:
     """Says why a run of the program ended, which people asked for by a word; by a signal this process ends too."""
     if end.status < 0:
         passing.end_by(-end.status)
-    asked = end.word if end.status == Status.USAGE else word
-    say(messages.sentence(messages.Run(path, asked, end.words), end.status))
+    is_unnamed = end.status == Status.USAGE and word not in program.WORDS
+    say(messages.no_name(word, end.words) if is_unnamed else messages.sentence(messages.Run(path, word, end.words), end.status))
     return end.status
 
 

@@ -78,15 +78,16 @@ def html_with(module: bytes) -> str:
 def missing() -> str:
     """What is said where the module isn't there."""
     if not os.path.exists(program.BUILD):
-        return f"the decoder's module isn't installed, in {MODULE}; --module can name it"
-    return f"the decoder's module isn't built: {program.PROVES}{program.build_needs('rt', 'wasm-opt')}; --module can name one"
+        brings = "./install of a checkout that is built brings it, where wasm-opt was there (Debian: apt-get install binaryen)"
+        return f"the decoder's module isn't installed, in {MODULE}: {brings}"
+    return f"the decoder's module isn't built: {program.PROVES}{program.build_needs('rt', 'wasm-opt')}"
 
 
 def write(options: argparse.Namespace, document_with: Callable[[bytes], str]) -> int:
     """Writes the document that stands over the module."""
     path = options.module or MODULE
     if not options.module and not os.path.exists(path):
-        say(f"{options.word}: {missing()}")
+        say(f"{options.word}: {missing()}; --module can name one")
         return NOT_THERE
     with open(path, "rb") as file:
         document = document_with(file.read())

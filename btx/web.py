@@ -14,7 +14,7 @@ MOST_MESSAGE = 1024
 # A status, headers and a body.
 Answer = tuple[http.HTTPStatus, list[tuple[str, str]], bytes]
 HERE = ("127.0.0.1", "localhost", "::1", "[::1]")
-ABSENT = "This port is a WebSocket. The viewer for it isn't built; ./build builds it.\n"
+ABSENT = "This port is a WebSocket. There is no viewer for it, since {}\n"
 
 
 def library(module: str) -> ModuleType:
@@ -54,12 +54,17 @@ def document() -> bytes | None:
         return viewer.html_with(file.read()).encode("utf-8")
 
 
+def shown_at(near: str) -> str:
+    """Where a browser shows the line, or why it can't."""
+    return f"a browser shows it at http://{near}/" if document() else f"no browser shows it, since {viewer.missing()}"
+
+
 def page() -> Answer:
     """What a browser gets that asks for a page, and not for a WebSocket."""
     found = document()
     kind = "text/html" if found else "text/plain"
     status = http.HTTPStatus.OK if found else http.HTTPStatus.NOT_FOUND
-    return status, [("Content-Type", f"{kind}; charset=utf-8")], found or ABSENT.encode("ascii")
+    return status, [("Content-Type", f"{kind}; charset=utf-8")], found or ABSENT.format(viewer.missing()).encode("utf-8", "replace")
 
 
 def is_open_to(headers: Mapping[str, str], address: str, port: int) -> bool:

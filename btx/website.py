@@ -22,14 +22,17 @@ SCRIPTS = ("viewer.js", "archive.js", "walk.js")
 STYLES = ("style.css", "archive.css")
 # What is made of a page, each kind in a folder of its own; the facts, by which it counts as made, come last and go first.
 KINDS = {"pages": ".html", "pictures": ".png", "made": ".json"}
-# All folders of a website.
+# All folders of a website, and the file of the viewer that is written first: by it a website is known, be it only begun.
 FOLDERS = (*KINDS, "viewer", "entries", "words", "walk")
+SITE = "site.js"
 # Of a file's 255 bytes the endings take some.
 LONGEST = 255 - len(".json.part")
 # A page may have a name under which no file of an archive can stand.
 NO_NAMES = (errno.ENAMETOOLONG, errno.EISDIR, errno.ENOTDIR, errno.EEXIST)
 # Pages are made by several threads: none takes an empty folder away in which another begins a file.
 BEGINNING = threading.Lock()
+# The sizes of a page's files by their kinds.
+Sizes = dict[str, int]
 POLICY = "default-src 'none'; img-src blob: data:; style-src 'self'; script-src 'self'"
 # The decoder's module, for pages that are decoded in the browser; no other page asks for it.
 MODULE, COMPILES = "module.js", f" 'wasm-unsafe-eval'; {viewer.WORKER}"
@@ -45,13 +48,23 @@ def part_of(name: str) -> str:
     return hashlib.sha256(os.fsencode(name)).hexdigest()[:2]
 
 
-def is_there(path: str) -> bool:
-    """Whether something stands in a file."""
-    return os.path.isfile(path) and os.path.getsize(path) > 0
+def size_of(path: str) -> int | None:
+    """How many bytes a file has; None where there is none."""
+    return os.path.getsize(path) if os.path.isfile(path) else None
 
 
-def write_bytes(path: str, data: bytes) -> None:
-    """A file, whole or not at all."""
+def is_foreign(out: str) -> bool:
+    """Whether there is something in a folder, and it is no website of an archive, be it only begun."""
+    own = os.path.join(out, "viewer")
+    if not os.path.isdir(out) or size_of(os.path.join(own, SITE)):
+        return False
+    here = os.listdir(out)
+    begun = os.listdir(own) if here == ["viewer"] and os.path.isdir(own) else here
+    return not set(begun) <= {f"{SITE}.part"}
+
+
+def write_bytes(path: str, data: bytes) -> int:
+    """A file, whole or not at all; answers its size."""
     with BEGINNING:
         os.makedirs(os.path.dirname(path), exist_ok=True)
         part = open(path + ".part", "wb")
@@ -62,10 +75,11 @@ def write_bytes(path: str, data: bytes) -> None:
     except OSError:
         os.unlink(path + ".part")
         raise
+    return len(data)
 
 
-def write(path: str, text: str) -> None:
-    write_bytes(path, text.encode("utf-8"))
+def write(path: str, text: str) -> int:
+    return write_bytes(path, text.encode("utf-8"))
 
 
 def picture_of(image: ModuleType, cells: str) -> bytes:
@@ -78,7 +92,7 @@ def picture_of(image: ModuleType, cells: str) -> bytes:
 def halves(decodes: bool) -> tuple[str, str]:
     """The viewer's document before and after a page's data, with places for what is each page's own; of pages that it decodes, or whose
     texts it has."""
-    scripts = (*([MODULE] if decodes else []), "words.js", "viewer.js", "site.js", "walk.js")
+    scripts = (*([MODULE] if decodes else []), "words.js", "viewer.js", SITE, "walk.js")
     changed = {
         'href="style.css"': 'href="{up}viewer/style.css"',
         "<h1>Tamligub</h1>": '<h1><a href="{up}index.html">Archive</a></h1>',
@@ -110,16 +124,15 @@ class Website:
         self.halves = {decodes: halves(decodes) for decodes in (False, True)}
 
     def begin(self, title: str) -> None:
-        """What all pages have in common: scripts, styles, and the title of the archive, by which pages don't change."""
-        os.makedirs(os.path.join(self.out, "viewer"), exist_ok=True)
+        """What all pages have in common: the title of the archive, by which pages don't change, scripts and styles."""
+        site = html_file.data_of({"title": title})
+        write(os.path.join(self.out, "viewer", SITE), f"(window.Tamligub = window.Tamligub || {{}}).site = {site};\n")
         for name in STYLES:
             shutil.copyfile(os.path.join(html_file.VIEW, name), os.path.join(self.out, "viewer", name))
         for name, scripts in scripts_of().items():
             write(os.path.join(self.out, "viewer", name), "".join(scripts))
         if self.module is not None:
             write(os.path.join(self.out, "viewer", MODULE), self.module)
-        site = html_file.data_of({"title": title})
-        write(os.path.join(self.out, "viewer", "site.js"), f"(window.Tamligub = window.Tamligub || {{}}).site = {site};\n")
 
     def path(self, kind: str, name: str) -> str:
         return os.path.join(self.out, kind, name + KINDS[kind])
@@ -133,19 +146,27 @@ class Website:
                 if ending == KINDS["made"]:
                     yield name
 
-    def facts(self, name: str) -> making.Facts | None:
-        """The facts of a page that is made with all that is told of it, or None."""
+    def noted(self, name: str) -> tuple[making.Facts | None, Sizes]:
+        """The facts of a page that is made with all that is told of it, or None; and the sizes that its other files were made with."""
         try:
             with open(self.path("made", name), encoding="utf-8") as file:
-                facts = making.Facts(**json.load(file))
+                noted = dict(json.load(file))
+            sizes = dict(noted.pop("sizes", {}))
+            facts = making.Facts(**noted)
         except (OSError, ValueError, TypeError):
-            return None
-        return facts if facts.passed_over is not None or not facts.is_read() else None
+            return None, {}
+        return facts if facts.passed_over is not None or not facts.is_read() else None, sizes
 
-    def lacks(self, name: str) -> bool:
-        """Whether a page lacks one of its files, or has an empty one; a picture only where one could be made."""
-        kinds = [kind for kind in KINDS if kind != "pictures" or self.image is not None]
-        return not all(is_there(self.path(kind, name)) for kind in kinds)
+    def facts(self, name: str) -> making.Facts | None:
+        """The facts of a page alone."""
+        return self.noted(name)[0]
+
+    def whole(self, name: str) -> making.Facts | None:
+        """The facts of a page whose files are as they were made, by their sizes; the picture only where one could be made. Else None."""
+        facts, sizes = self.noted(name)
+        kinds = ("pages",) if self.image is None else ("pages", "pictures")
+        is_whole = all(kind in sizes and sizes[kind] == size_of(self.path(kind, name)) for kind in kinds)
+        return facts if is_whole else None
 
     def remove_kind(self, kind: str, name: str) -> None:
         """Takes away one of the files of a page, and folders that are empty without it."""
@@ -174,12 +195,12 @@ class Website:
         """Writes what was made of a page, last the facts."""
         with contextlib.suppress(FileNotFoundError):
             os.remove(self.path("made", name))
-        write(self.path("pages", name), self.document(name, facts, parts))
+        sizes = {"pages": write(self.path("pages", name), self.document(name, facts, parts))}
         if self.image:
-            write_bytes(self.path("pictures", name), picture_of(self.image, parts["cells"]))
+            sizes["pictures"] = write_bytes(self.path("pictures", name), picture_of(self.image, parts["cells"]))
         else:
             self.remove_kind("pictures", name)
-        write(self.path("made", name), html_file.data_of(dataclasses.asdict(facts)))
+        write(self.path("made", name), html_file.data_of({**dataclasses.asdict(facts), "sizes": sizes}))
 
     def add(self, name: str, facts: making.Facts, parts: making.Parts | None) -> making.Facts:
         """Writes what was made of a page. Of one that can't be read now stays what was made before, and of another nothing."""

@@ -1,4 +1,5 @@
 """Lines over which bytes come: to a host by TCP, over a serial device, or from standard input."""
+import errno
 import os
 import re
 import socket
@@ -97,6 +98,13 @@ class Socket:
         self.socket.close()
 
 
+def why_unset(number: int, device: str) -> str:
+    """Why a device can't be set as a serial line, by the number of the system's error."""
+    if number == errno.ENOTTY:
+        return f"{device} is no serial device, as /dev/ttyS0 is; a host is named HOST:PORT"
+    return os.strerror(number).lower()
+
+
 class Serial:
     """A line over a device: eight bits without parity, and no control of its flow. It is left as it was."""
 
@@ -109,7 +117,7 @@ class Serial:
             self.set(speed)
         except termios.error as fault:
             os.close(self.file)
-            raise OSError(fault.args[0], os.strerror(fault.args[0]).lower(), device) from None
+            raise OSError(fault.args[0], why_unset(fault.args[0], device), device) from None
 
     def set(self, speed: int) -> None:
         tty.setraw(self.file, termios.TCSANOW)

@@ -1,4 +1,5 @@
 """Archives: each page with the viewer, the index, the report, going on after a stop, and over GNU parallel."""
+import argparse
 import base64
 import concurrent.futures
 import contextlib
@@ -6,6 +7,7 @@ import hashlib
 import json
 import os
 import re
+import shlex
 import shutil
 import signal
 import subprocess
@@ -21,7 +23,7 @@ import pngs
 import stand
 
 import looks as second_reading
-from btx import lists, looks, making, website
+from btx import jobs, lists, looks, making, website
 from btx.statuses import Status
 
 NAMES = "[...document.querySelectorAll('#tiles .name')].map((one) => one.textContent)"
@@ -144,7 +146,7 @@ class Archive(archives.Case):
         self.archive("--again")
         self.assertGreater(os.path.getmtime(made), 1)
 
-    def test_a_page_that_lacks_a_file_is_made_again(self):
+    def test_a_page_that_lacks_a_file_or_has_one_of_another_size_is_made_again(self):
         self.small("title", "boat")
         self.archive()
         kinds = ["made", "pages", "pictures"] if stand.absent.has_library("PIL") else ["made", "pages"]
@@ -154,10 +156,13 @@ class Archive(archives.Case):
                 whole = file.read()
             os.remove(path)
             self.assertIn(b"2 pages, 0 with refused items, 0 not read; 1 was there", self.archive().stdout)
-            os.truncate(path, 0)
-            self.assertIn(b"; 1 was there", self.archive().stdout)
-            with open(path, "rb") as file:
-                self.assertEqual(file.read(), whole)
+            # It is empty, and something else stands in it.
+            for data in (b"", b"[]"):
+                with open(path, "wb") as file:
+                    file.write(data)
+                self.assertIn(b"; 1 was there", self.archive().stdout)
+                with open(path, "rb") as file:
+                    self.assertEqual(file.read(), whole)
         self.assertIn(b"; 2 were there", self.archive().stdout)
 
     def test_two_runs_a_page_that_tell_of_the_same_bytes(self):
@@ -288,6 +293,21 @@ class Archive(archives.Case):
         report, names = self.is_whole()
         self.assertEqual(len(report), len(names) + 3)
 
+    def test_each_machine_is_given_btx_and_this_one_alone_its_own_path(self):
+        beside = os.path.join(stand.ROOT, "bin")
+        own = shlex.quote(os.path.join(beside, "btx"))
+        for logins, remote, called in (
+            ([], None, own), ([":"], None, own), ([":", ":"], None, own), (["one"], None, "btx"), (["one", ":"], None, "btx"), ([":"], "x y", "x y"),
+        ):
+            options = argparse.Namespace(sshlogin=logins, remote=remote, jobs=None, beside=beside)
+            self.assertEqual(jobs.parallel_words(options)[-1], f"{called} archive --worker", (logins, remote))
+
+    def test_over_parallel_on_this_machine_by_its_login(self):
+        self.needs("parallel")
+        self.small("title", "boat")
+        self.archive("--jobs-by", "parallel", "--sshlogin", ":")
+        self.assertEqual({row["status"] for row in self.report().values()}, {"0"})
+
     def test_without_parallel_it_says_so(self):
         folder = self.path("bin")
         os.mkdir(folder)
@@ -298,7 +318,9 @@ class Archive(archives.Case):
     def test_pages_that_no_machine_made_are_told(self):
         self.needs("parallel")
         done = self.archive("--jobs-by", "parallel", "--remote", "false", status=5)
-        self.assertIn(b"18 pages were not made", done.stderr)
+        needs = "each machine must let you in without a question, and start btx by the command false, which --remote can change"
+        said = f"18 pages were not made, and parallel says why: {needs}; the same command goes on with them"
+        self.assertIn(said, done.stderr.decode())
         self.assertIn(b"18 pages, 0 with refused items, 0 not read, 18 not made; 0 were there", done.stdout)
 
     def over_ssh(self, *words, **more):
@@ -402,6 +424,20 @@ class Index(stand.Case):
             self.choose("filter", choice)
             self.tab.until(f"document.getElementById('count').textContent === {json.dumps(said)}")
 
+    def test_pages_of_the_same_screen_stand_together_in_each_order(self):
+        out = self.path("out")
+        pages = {"a": (428, "x"), "b": (428, "x"), "c": (752, "y"), "d": (376, "y"), "e": (1128, "y"), "f": (9999, "z")}
+        read = "read to its end, nothing refused"
+        facts = {f"{name}.btx": making.Facts(size, 0, read, screen=screen) for name, (size, screen) in pages.items()}
+        website.Website(out).begin("")
+        lists.write(out, facts, ",")
+        self.open(os.path.join(out, "index.html"))
+        self.choose("filter", "alike")
+        for order, wanted in (("name", "abcde"), ("bytes", "ecdab")):
+            self.choose("order", order)
+            names = json.dumps([f"{name}.btx" for name in wanted], separators=(",", ":"))
+            self.tab.until(f"JSON.stringify({NAMES}) === {json.dumps(names)}")
+
     def test_index_filters_searches_and_leads_to_the_viewer(self):
         self.needs_pillow()
         source = self.path("source")
@@ -436,7 +472,7 @@ class Index(stand.Case):
         self.tab.value("document.querySelector('#tiles a').click()")
         self.tab.until("window.Tamligub !== undefined && Tamligub.viewer !== undefined && Tamligub.viewer.film() !== null")
         shown = stand.put("show", stand.page("title")).decode()
-        self.assertEqual(self.tab.value("Tamligub.viewer.film().text(false)"), shown)
+        self.assertEqual(self.tab.value("Tamligub.textOfRows(Tamligub.viewer.shown(), false)"), shown)
         back = "file://" + os.path.join(out, "index.html#search=50%25&order=refused")
         self.tab.until(f"document.querySelector('h1 a').href === {json.dumps(back)}")
         self.assertEqual(self.tab.faults, [])

@@ -15,7 +15,7 @@ import archives
 from archives import data_in, entries_in
 import stand
 
-from btx import making, progress
+from btx import making, progress, website
 
 NO_UTF_8 = b"stra\xdfe.btx"
 SHOWN = "stra\\xdfe.btx"
@@ -135,6 +135,9 @@ class Taken(archives.Case):
         self.add("a.btx")
         for words, said in (
             (["--sshlogin", "x"], b"--sshlogin is for --jobs-by parallel"), (["--remote", "x"], b"--remote is for --jobs-by parallel"),
+            (["--pattern", ""], b"a pattern is empty, and no file has such a name; --pattern '*.btx' takes those that end in .btx\n"),
+            (["--pattern", "*.btx", "--pattern="], b"a pattern is empty, "),
+            (["--pattern", "1983/*.btx"], b"1983/*.btx: a pattern is of names without their folders, as --pattern '*.btx'\n"),
         ):
             self.assertIn(said, self.archive(*words, status=2).stderr)
         for out in (os.path.join(self.source, "out"), self.source):
@@ -144,6 +147,41 @@ class Taken(archives.Case):
         self.source, self.out = self.path("pages"), self.folder
         self.assertIn(b"is a folder that the website takes for itself", self.archive(status=2).stderr)
         self.assertEqual(os.listdir(self.source), ["a.btx"])
+
+    def test_a_folder_with_other_files_is_no_place_for_a_website(self):
+        self.add("a.btx")
+        for name in ("index.html", "words/notes.txt", "viewer/photo.png", "entries/deep/0.js"):
+            with self.subTest(name):
+                os.makedirs(os.path.dirname(os.path.join(self.out, name)), exist_ok=True)
+                self.written(os.path.join("out", name), b"mine")
+                error = self.archive(status=4).stderr.decode()
+                said = "has other files in it, which stay; the website needs a new or empty folder, or one that archive has made"
+                self.assertEqual(error, f"btx: archive: {self.out} {said}\n")
+                here = [os.path.relpath(os.path.join(place, one), self.out) for place, _, files in os.walk(self.out) for one in files]
+                self.assertEqual(here, [name])
+                shutil.rmtree(self.out)
+
+    def test_a_website_goes_into_an_empty_folder_and_into_its_own_with_what_was_put_beside_it(self):
+        self.add("a.btx")
+        os.mkdir(self.out)
+        self.archive()
+        self.written("out/robots.txt", b"mine")
+        self.assertIn(b"; 1 was there", self.archive().stdout)
+        with open(os.path.join(self.out, "robots.txt"), "rb") as file:
+            self.assertEqual(file.read(), b"mine")
+
+    def test_a_website_that_was_only_begun_goes_on(self):
+        """Wherever its beginning was stopped."""
+        self.add("a.btx")
+        os.makedirs(os.path.join(self.out, "viewer"))
+        self.assertFalse(website.is_foreign(self.out))
+        self.written("out/viewer/site.js.part", b"(window")
+        self.assertFalse(website.is_foreign(self.out))
+        with unittest.mock.patch.object(website.shutil, "copyfile", side_effect=KeyboardInterrupt), self.assertRaises(KeyboardInterrupt):
+            website.Website(self.out).begin("")
+        self.assertFalse(website.is_foreign(self.out))
+        self.archive()
+        self.assertEqual(sorted(self.report()), ["a.btx"])
 
     def test_names_that_are_no_utf_8_are_read_by_their_bytes(self):
         self.add(NO_UTF_8, "größe.btx")
@@ -222,11 +260,15 @@ class Report(archives.Case):
         self.assertEqual(passed_over, {"colours.btx": "2", "unknown.btx": "1", "'=1+1.btx": "0"})
 
     def test_a_title_is_the_first_line_of_double_size_or_else_the_first(self):
-        self.small("refused", "title")
+        self.small("refused", "title", "flashing")
+        # High signs at row 3 among more small ones, and at row 6 beside fewer; and as many of both, which are not most.
+        for name, page in (("heads", b"A\x1fCAten small\x8dhigh\x8c\x1fFA\x8dHIGH\x8c 1/3\x1fIA\x8dlast"), ("half", b"A\x1fCAab\x8dCD")):
+            self.written(f"collection/{name}.btx", page)
         self.archive()
         shown = unicodedata.normalize("NFC", stand.put("show", stand.page("refused")).decode())
         first = next(filter(None, map(str.strip, shown.splitlines())))
-        self.assertEqual({name: row["title"] for name, row in self.report().items()}, {"title.btx": "BILDSCHIRMTEXT", "refused.btx": first})
+        titles = {"title.btx": "BILDSCHIRMTEXT", "refused.btx": first, "flashing.btx": "Blinken und andere Arten"}
+        self.assertEqual({name: row["title"] for name, row in self.report().items()}, {**titles, "heads.btx": "HIGH", "half.btx": "A"})
 
 
 class Terminal(io.StringIO):

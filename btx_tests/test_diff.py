@@ -58,6 +58,14 @@ class Diff(stand.Case):
         done = subprocess.run(["bash", "-c", line], stdout=subprocess.PIPE, stderr=subprocess.PIPE, env=stand.environment(), timeout=stand.LONG)
         self.assertEqual((done.returncode, done.stdout, done.stderr), (0, b"", b""))
 
+    def test_standard_input_is_one_page(self):
+        with open(self.one, "rb") as file:
+            done = stand.btx("diff", "-", self.one, stdin=file)
+        self.assertEqual((done.returncode, done.stdout, done.stderr), (0, b"", b""))
+        done = stand.btx("diff", "-", "-")
+        said = b"btx: diff: standard input is one page, and - stands more than once\n"
+        self.assertEqual((done.returncode, done.stdout, done.stderr), (2, b"", said))
+
 
 class Alike(archives.Case):
     def test_pages_whose_screens_are_the_same_are_listed(self):

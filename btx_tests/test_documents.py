@@ -4,6 +4,7 @@ import re
 import shutil
 import subprocess
 import sys
+import urllib.parse
 
 import stand
 
@@ -122,6 +123,17 @@ class Documents(stand.Case):
         pages, _ = blocks("docs/ARCHIVES.md", "sh")
         status, name = re.search(r"as in `(\d) (\S+)`", text_of("docs/ARCHIVES.md")).groups()
         self.assertEqual(self.output("sh", "-ec", pages, cwd=self.clone()), f"{status} {name}\n")
+
+    def test_the_keys_in_the_address_of_an_index(self):
+        """Those of the document are those of the index, and their values those of its lists besides the usual ones, which come first."""
+        text, index = text_of("docs/ARCHIVES.md"), text_of("view/archive.html")
+        keys = urllib.parse.parse_qs(re.search(r"`index\.html#(\S+)`", text)[1])
+        self.assertEqual(list(keys), ["folder", *re.findall(r"(\w+): ", re.search(r"const CONTROLS = (.*)", text_of("view/archive.js"))[1])])
+        told = re.search(r"`filter` takes (.*?), and `order` takes (.*?)\.\n", text, re.DOTALL).groups()
+        for key, values in zip(("filter", "order"), told):
+            options = re.search(rf'<select id="{key}">(.*?)</select>', index, re.DOTALL)[1]
+            self.assertEqual(re.findall(r"`(\w+)`", values), re.findall(r'value="(\w+)"', options)[1:])
+            self.assertIn(f"`{keys[key][0]}`", values)
 
     def test_over_seven_bits(self):
         _, pipe = blocks("docs/ARCHIVES.md", "sh")

@@ -6,6 +6,7 @@ import sys
 
 import stand
 from btx import canvas, command, completion, faults, files, grammar, library, listing, live, looks, messages, painting, program, shapes, typed
+from btx import website, wire
 from btx.statuses import READ, Status
 
 sys.path.append(os.path.join(stand.ROOT, "library", "tests"))
@@ -86,6 +87,17 @@ class Words(stand.Case):
         self.assertIn(r"more than 2\(ha24 bytes", section("EXIT STATUS"))
         self.assertIn("than 2\\(ha20 bytes", section("EXIT STATUS"))
         self.assertEqual((files.MOST_PAGE, typed.MOST, messages.MOST_PAGE, messages.MOST_SCRIPT), (2**24, 2**20) * 2)
+
+
+class Websites(stand.Case):
+    def test_the_manual_names_what_a_website_takes_for_itself(self):
+        *first, last = website.FOLDERS
+        self.assertIn(f"index.html, report.csv, report.json and the folders {', '.join(first)} and {last}: ", text_of("docs", "btx.1"))
+
+
+class Times(stand.Case):
+    def test_how_long_a_host_is_called_is_that_of_the_manual(self):
+        self.assertIn(f"is given up after {wire.ANSWERS_IN} seconds for each of its\n", text_of("docs", "btx.1"))
 
 
 class Statuses(stand.Case):

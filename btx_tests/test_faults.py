@@ -69,13 +69,24 @@ class Faults(stand.Case):
             ("colour 1 2", "colour takes 4 words after it, N R G B, and not 2"), ("text", "text takes SIGNS after it, at least one"),
             ("txet A", "txet is no word of scripts; the nearest is text"),
             ("scroll", "the nearest is scrollup"), ("color 1 2 3 4", "the nearest is colour"),
-            ("qqqq", "qqqq is no word of scripts"), ("raw 411f4", "raw takes two digits for each byte, and here stand 5"),
+            ("qqqq", "qqqq is no word of scripts"),
+            ("raw 411f4", "raw takes two digits for each byte, and here it has 5"),
             ("  raw 41zz", "sign 9 is z, which is no hexadecimal digit"),
             ("\ttext ö„", "sign 8 is „ (U+201E DOUBLE LOW-9 QUOTATION MARK), which no set has"),
             ("text Öffnung\t8 Uhr", "sign 13 is a tab, which no set has"),
         ):
             shown = line.replace("\t", "\\t")
             self.assertTrue(self.checked(line)[1].endswith(f"{said}: {shown}"), (line, self.checked(line)))
+
+    def test_a_word_of_the_other_kind_is_told_as_such(self):
+        self.assertEqual(self.checked("at 1 1\nbox 1 1 2 2\n"), {2: "box is no word of scripts, but of drawings: box 1 1 2 2"})
+        self.assertEqual(self.checked("box 1 1 2 2\nat 1 1\n", "--drawing"), {2: "at is no word of drawings, but of scripts: at 1 1"})
+
+    def test_of_long_words_the_beginning_is_told(self):
+        beginning = f"{'x' * 60}…"
+        self.assertEqual(self.checked("x" * 1000 + "\n"), {1: f"{beginning} is no word of scripts: {beginning}"})
+        said = f"N is {'9' * 60}…, and takes a number of one or two digits, 0 to 63: repeat {'9' * 53}…"
+        self.assertEqual(self.checked(f"repeat {'9' * 1000}\n"), {1: said})
 
     def test_items_of_bytes_are_named_with_the_reason_of_the_program(self):
         wording = {number: meaning for number, _, meaning in manual("Reasons")}

@@ -125,6 +125,18 @@ class Files(stand.Case):
         self.assertEqual((done.returncode, self.bytes_of(kept)), (5, b"kept"))
         self.assertEqual(done.stderr.decode(), f"btx: show: the output failed, as on a full disk\nbtx: show: {kept} stays as it was\n")
 
+    def test_of_standard_output_that_is_named_nothing_is_said_to_stay(self):
+        """What went there went there, as without -o."""
+        bad, wide, page = self.written("bad", b"jump\n"), self.written("wide", b"A\x80"), stand.page("title")
+        as_ever, failing = stand.environment(), stand.environment(BTX_PROGRAM=self.stub("echo front; exit 5"))
+        for words, status, env in (
+            (["show", "none"], 4, as_ever), (["edit", page, bad], 3, as_ever), (["gen", "x"], 2, as_ever), (["eight", wide], 8, as_ever),
+            (["show", page], 5, failing),
+        ):
+            done, plain = (stand.btx(*words, *more, cwd=self.folder, env=env) for more in (("-o", "-"), ()))
+            self.assertEqual((done.returncode, done.stdout, done.stderr), (status, plain.stdout, plain.stderr))
+            self.assertNotIn(b"is not written", done.stderr)
+
     def test_refused_items_keep_nothing_from_being_written(self):
         page, out = self.written("page", b"\x9b1\rB"), self.path("out")
         self.assertEqual(stand.btx("write", page, "-o", out).returncode, 1)
@@ -154,15 +166,49 @@ class Files(stand.Case):
             done = stand.btx(name, cwd=self.folder)
             self.assertEqual((done.returncode, done.stderr.decode()), (4, f"btx: terminal: {name}: no such file\n"))
 
+    def test_what_stands_after_the_end_of_the_options_is_a_name(self):
+        data, script = self.bytes_of(stand.page("title")), self.bytes_of(self.written("-o", b"at 1 2\ntext XY\n"))
+        page = self.written("page", data)
+        for name in ("-x.btx", "--", "--help", "-opage"):
+            self.written(name, data)
+            for words, want in (
+                (["show", "--", name], stand.put("show", page)), (["write", "-o-", "--", name], stand.put("write", page)),
+                (["edit", "--", name, "-o"], stand.put("edit", page, self.written("script", script))),
+                (["--", "show", "--", name], stand.put("show", page)), (["--", name], stand.btx("terminal", page).stdout),
+                (["terminal", "--", name], stand.btx("terminal", page).stdout),
+            ):
+                done = stand.btx(*words, cwd=self.folder)
+                self.assertEqual((done.returncode, done.stdout, done.stderr), (0, want, b""), words)
+        self.assertEqual(self.fed(data, "show", "--", "-"), (stand.put("show", page), 0))
+        for words, status, said in (
+            (["check", "--", "-x", "-y"], 2, "check: takes one word after it, PAGE, and not 2\nusage: btx check PAGE [-o FILE]"),
+            (["check", "--", "-none"], 4, "check: ./-none: no such file"), (["--", "-none"], 4, "terminal: -none: no such file"),
+        ):
+            done = stand.btx(*words, cwd=self.folder)
+            self.assertEqual((done.returncode, done.stdout, done.stderr.decode()), (status, b"", f"btx: {said}\n"), words)
+        self.assertEqual(stand.btx("--").stderr, stand.btx().stderr)
+
     def test_help_of_a_word(self):
         for word in ("edit", "terminal", "check-script"):
             self.assertEqual(stand.btx("help", word).stdout, stand.btx(word, "--help").stdout)
             self.assertIn(f"usage: btx {word}".encode(), stand.btx("help", word).stdout)
         self.assertEqual(stand.btx("help").stdout, stand.btx("--help").stdout)
         self.assertEqual(stand.btx("help", "help").stdout, stand.btx("--help").stdout)
+        for words, count in ((("edit", "trace"), 2), (("help", "edit"), 2), (("edit", "trace", "plot"), 3)):
+            done = stand.btx("help", *words)
+            told = f"btx: help: takes one word after it, WORD, or none, and not {count}\nusage: btx help [WORD]\n"
+            self.assertEqual((done.returncode, done.stdout, done.stderr.decode()), (2, b"", told))
         done = stand.btx("help", "shwo")
         said = b"btx: shwo is neither a word of btx nor a file; the nearest word is show\nbtx --help lists the words\n"
         self.assertEqual((done.returncode, done.stderr), (2, said))
+
+    def test_an_option_before_a_word_is_told(self):
+        for words in (["--replay", "1200", stand.page("boat")], ["--reveal", stand.page("answers")], ["-o", "x", "show", stand.page("boat")]):
+            rule = "btx itself has --help and --version, and options of a word or a page stand behind it, as in btx PAGE --reveal"
+            said = f"btx: {words[0]} stands first: {rule}\nbtx --help lists the words\n"
+            done = stand.btx(*words)
+            self.assertEqual((done.returncode, done.stdout, done.stderr.decode()), (2, b"", said))
+        self.assertEqual(stand.btx("--version").returncode, 0)
 
     def test_the_nearest_word_is_that_of_the_letters(self):
         for word, nearest in (

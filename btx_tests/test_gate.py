@@ -56,6 +56,13 @@ class Gate(stand.Case):
         said, good = self.said(part("high", f"cat {mark}", "low"), part("low", f"sleep 0.2; echo made > {mark}"))
         self.assertEqual((said.splitlines()[:2], good), (["== high: passed, N s", "made"], True))
 
+    def test_of_those_that_are_ready_the_first_begins(self):
+        low, high, other, last = part("low", "true"), part("high", "true", "low"), part("other", "true"), part("last", "true")
+        turns = parts.Turns([low, high, other, last])
+        begun = [turns.next(), turns.next()]
+        turns.end(low)
+        self.assertEqual([*begun, turns.next(), turns.next(), turns.next()], [low, other, high, last, None])
+
     def test_parts_that_are_named_run_alone(self):
         all_parts = [part("low", "echo no"), part("high", "echo yes", "low")]
         self.assertEqual(self.said(*parts.named_of(all_parts, ["high"]))[0].splitlines()[:2], ["== high: passed, N s", "yes"])

@@ -163,12 +163,15 @@ class Requests(HostCase):
             self.assertTrue(guest.has(AT_FIRST + file.read()))
 
     def test_what_cannot_be_served(self):
-        os.mkdir(self.path("empty"))
+        for name in ("empty", "parts"):
+            os.mkdir(self.path(name))
+        self.written("parts/012b.btx", b"A")
         with socket.create_server(("127.0.0.1", 0)) as server:
             taken = str(server.getsockname()[1])
             for words, said in (
                 ((self.path("none"), "--port", "0"), "none: no such file or directory"),
                 ((self.path("empty"), "--port", "0"), "empty: no file in it ends in .btx"),
+                ((self.path("parts"), "--port", "0"), "parts: no page in it has its first part; 012b.btx is a later one, after 12.btx\n"),
                 ((self.path("pages"), "--port", taken), "address already in use"),
             ):
                 done = stand.btx("host", *words)
@@ -324,7 +327,9 @@ class Web(HostCase):
         if os.path.exists(stand.absent.MODULE):
             self.assertEqual((status, text), (200, stand.btx("viewer").stdout))
         else:
-            self.assertEqual((status, b"isn't built" in text), (404, True))
+            said = stand.btx("viewer").stderr.decode().removeprefix("btx: viewer: ").removesuffix("; --module can name one\n")
+            self.assertIn("isn't built: ", said)
+            self.assertEqual((status, text.decode()), (404, f"This port is a WebSocket. There is no viewer for it, since {said}\n"))
 
     def test_it_says_where_a_browser_shows_it(self):
         _, port = self.host()

@@ -153,7 +153,9 @@ class Words(lines.Case):
         for words in ("host", "host:", "host:70000", "serial:/dev/null", "serial:/dev/null:fast", ""):
             self.ends([words], 2, "is no line: HOST:PORT, serial:DEVICE:BITS")
         self.ends(["serial:/dev/null:1201"], 2, "1201 isn't a speed of serial lines; these are: 50 75 ")
-        self.ends(["serial:/dev/null:1200"], 4, "inappropriate ioctl")
+        for device in ("/dev/null", self.written("plain", b"A")):
+            said = f"{device} is no serial device, as /dev/ttyS0 is; a host is named HOST:PORT\n"
+            self.ends([f"serial:{device}:1200"], 4, f"btx: line: serial:{device}:1200: {said}")
 
     def test_a_line_that_ends(self):
         host = self.host(lambda host: host.send(b"GutenTag!"))
@@ -218,6 +220,25 @@ class Words(lines.Case):
         os.close(slave)
 
 
+class Names(stand.Case):
+    """The names of keys in a table, which is read without the library."""
+
+    def test_letters_with_control_have_names_but_for_those_that_come_as_other_keys(self):
+        others = {"h": "backspace", "i": "tab", "j": "return", "m": "return"}
+        for letter in "abcdefghijklmnopqrstuvwxyz":
+            text, byte = f"ctrl-{letter} 41\nctrl-c leave\n", bytes([ord(letter) - 0x60])
+            if letter in others:
+                with self.assertRaisesRegex(OSError, f"line 1: ctrl-{letter} comes as {others[letter]}, which is its name here"):
+                    lines.keyboard.table_in(text, "table")
+                text = text.replace(f"ctrl-{letter}", others[letter])
+            wanted = [lines.keyboard.LEAVE if letter == "c" else b"A"]
+            self.assertEqual(lines.keys_sent(byte, lines.keyboard.table_in(text, "table")), wanted, letter)
+
+    def test_a_table_whose_only_key_that_leaves_never_comes(self):
+        with self.assertRaisesRegex(OSError, "line 2: ctrl-m comes as return"):
+            lines.keyboard.table_in("ctrl-c nothing\nctrl-m leave\n", "table")
+
+
 class Keys(lines.Case):
     """What keys send: those of the issue by the codes of the profile and of ISO 6937."""
 
@@ -244,6 +265,7 @@ class Keys(lines.Case):
         for text, said in (
             ("retrun 0D", "line 1: retrun is no key; the nearest is return"), ("a\nb 1", "line 1: after a stand its bytes"),
             ("# note\nf1 1G", "line 2: after f1 stand its bytes"), ("ctrl-c 03", "no key leaves"),
+            ("ctrl-c nothing\nctrl-m leave", "line 2: ctrl-m comes as return, which is its name here"),
         ):
             path = self.written("table", text.encode())
             done = stand.btx("line", "-", "--keys", path)

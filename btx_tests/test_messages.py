@@ -33,7 +33,9 @@ class Messages(stand.Case):
 
     def test_what_is_no_page_in_seven_bits(self):
         page = self.written("wide", b"A\x80B")
-        self.assertEqual(self.ends(["eight", page], 8, f"eight: {page}: this is no page in seven bits").stdout, b"A")
+        self.assertEqual(self.ends(["eight", page], 8, f"eight: {page}: this is no page in seven bits; only what stands before").stdout, b"A")
+        told = f"btx: eight: {page}: this is no page in seven bits\nbtx: eight: {self.path('eight')} is not written\n"
+        self.assertEqual(stand.btx("eight", page, "-o", self.path("eight")).stderr.decode(), told)
 
     def test_refused_items_are_counted(self):
         page = self.written("broken", b"\x9b1\rB")
@@ -97,7 +99,8 @@ class Messages(stand.Case):
             self.assertEqual(done.stdout, stand.put("edit", stand.page("title"), script))
 
     def test_a_line_of_a_drawing_is_named_with_its_reason(self):
-        for line, said in ((b"text A", "line 2: text is no word of drawings: text A"), (b"plot 80 0", "X is 80, and takes 0 to 79")):
+        text = "line 2: text is no word of drawings, but of scripts: text A"
+        for line, said in ((b"text A", text), (b"plot 80 0", "X is 80, and takes 0 to 79")):
             drawing = self.written("drawing", b"plot 0 0\n" + line + b"\n")
             done = self.ends(["plot", stand.page("title"), drawing], 3, said)
             self.assertEqual(done.stdout, stand.put("plot", stand.page("title"), drawing))
@@ -147,6 +150,15 @@ class Messages(stand.Case):
 
     def test_a_program_that_is_named_and_not_there(self):
         self.ends(["show", "x"], 127, "BTX_PROGRAM is nowhere", env=stand.environment(BTX_PROGRAM="nowhere"))
+
+    def test_a_name_that_the_program_does_not_take_is_told_by_the_word_that_was_asked(self):
+        page, out = self.path("\udcdc"), self.path("out")
+        for words in (["terminal", page], ["png", page, "-o", out], ["html", page, "-o", out], ["svg", page], ["diff", page, stand.page("title")]):
+            if words[0] == "png" and not stand.absent.has_library("PIL"):
+                continue
+            said = f"the name {self.folder}/\\xdc isn't UTF-8, and the program takes no other; btx {words[0]} - reads standard input"
+            self.assertEqual(self.ends(words, 2, said).stderr.decode(), f"btx: {words[0]}: {said}\n")
+        self.assertEqual(self.ends(["terminal", ""], 2, "a name").stderr, b"btx: terminal: a name is empty\n")
 
     def test_help_and_version(self):
         program = ("changes", "check", "list", "show", "cells", "write", "trace", "edit", "plot", "gen", "load")

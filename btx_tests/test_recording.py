@@ -7,7 +7,7 @@ import lines
 import stand
 from test_terminal import CLOCK, FULL, Reading
 
-from btx import live, program, recording
+from btx import cut, live, program, recording
 
 # Colours and a double size, in pieces that end in the middle of units too.
 DATA = b"\x0c\x1f\x43\x43\x81Rot\x1f\x45\x4a\x8dHoch\x8c.\x1f\x47\x41\x94Ende"
@@ -196,6 +196,40 @@ class Cut(lines.Case):
         self.assertEqual(list(self.made(self.recorded(b"\x0c"), "--all").values()), [b"\x0c"])
         self.assertEqual(self.made(self.recorded(b""), "--all"), {})
 
+    def test_a_recording_that_is_longer_than_a_page(self):
+        """Units that move the position alone: nothing of the recording is lost, also where its pages are long."""
+        parts = [b"\x1f\x2f\x42" + bytes([0x41 + number]) + b"\x1e" * 2**23 for number in range(3)]
+        self.assertEqual(list(self.made(self.recorded(*parts)).values()), parts)
+
+    def test_a_page_that_would_be_too_long_is_left_out_and_named(self):
+        parts = (b"\x0cA", b"\x1f\x2f\x42" + b"\x1e" * 2**24, b"\x1f\x2f\x42B")
+        path = self.recorded(*parts)
+        for options, hint in (((), "; --all begins a page at each clear"), (("--all",), "")):
+            folder = self.path("cut" + "".join(options))
+            done = stand.btx("cut", path, "-o", folder, *options)
+            said = f"btx: cut: 2.btx would have more than 16,777,216 bytes, and is left out{hint}\nbtx: cut: 2 pages in {folder}\n"
+            self.assertEqual((done.returncode, done.stderr.decode()), (7, said))
+            self.assertEqual(sorted(os.listdir(folder)), ["1.btx", "3.btx"])
+
+    def test_a_recording_that_is_longer_than_any(self):
+        path = self.written("kept", b"\x0cA")
+        os.truncate(path, 2**32 + 1)
+        done = stand.btx("cut", path, "--all", "-o", self.path("pages"))
+        said = "the recording has more than 4,294,967,296 bytes; head -c 4294967296 makes a front of it that can be cut"
+        self.assertEqual((done.returncode, done.stderr.decode()), (7, f"btx: cut: {path}: {said}\n"))
+        self.assertFalse(os.path.exists(self.path("pages")))
+
+    def test_ten_pages_are_numbered_by_two_digits(self):
+        found = self.made(self.recorded(*[b"\x0c" + bytes([0x41 + number]) for number in range(10)]))
+        self.assertEqual(list(found), [f"{number:02}.btx" for number in range(1, 11)])
+
+    def test_a_pause_is_measured_over_keys(self):
+        path = self.written("kept", b"\x0cA\x0cB\x0cC")
+        # A key at once after a part, and the next part two seconds or nothing after that.
+        self.written("kept.times", b"0 2\n10 0\n2010 2\n2020 0\n2020 2\n")
+        self.assertEqual(list(self.made(path, "--no-keys").values()), [b"\x0cA", b"\x0cB\x0cC"])
+        self.assertEqual(len(self.made(path)), 3)
+
     def test_an_archive_takes_the_folder(self):
         path = self.recorded(self.STATE, *self.PAGES)
         self.assertEqual(stand.btx("cut", path, "-o", self.path("pages")).returncode, 0)
@@ -208,8 +242,28 @@ class Cut(lines.Case):
         path = self.written("kept", b"\x0cA")
         done = stand.btx("cut", path, "-o", self.path("pages"))
         self.assertEqual((done.returncode, done.stderr), (4, f"btx: cut: {path}: it has no times beside it, kept.times; --all does without\n".encode()))
+        os.mkdir(self.path("folder"))
+        self.written("timed", b"A")
+        times = self.written("timed.times", b"0 1\n")
+        for name, said in ((self.path("folder"), "it is a folder, and a recording is a file"), (times, "these are the times of a recording, which is timed")):
+            done = stand.btx("cut", name, "-o", self.path("pages"))
+            self.assertEqual((done.returncode, done.stderr.decode()), (4, f"btx: cut: {name}: {said}\n"))
         self.assertEqual(stand.btx("cut", path, "--all", "-o", self.path("pages")).returncode, 0)
         done = stand.btx("cut", path, "--all", "-o", self.path("pages"))
         self.assertEqual((done.returncode, done.stderr), (4, f"btx: cut: {self.path('pages')}: there are pages in it already\n".encode()))
         done = stand.btx("cut", self.path("none"), "--all", "-o", self.path("other"))
         self.assertEqual((done.returncode, os.path.exists(self.path("other"))), (4, False))
+
+
+class Read(stand.Case):
+    """How a recording is read."""
+
+    def test_all_of_it_is_read_however_long_it_is(self):
+        data = bytes(range(256)) * (2**24 // 256 + 1)
+        self.assertEqual(cut.recorded(self.written("kept", data)), data)
+
+    def test_one_with_more_bytes_than_a_decoder_takes_is_not(self):
+        path = self.written("kept", b"")
+        os.truncate(path, 2**32 + 1)
+        with self.assertRaises(live.Full):
+            cut.recorded(path)
