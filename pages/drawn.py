@@ -331,7 +331,7 @@ def flashing():
         page += at(row, 2) + words(label) + at(row, 14) + fore(YELLOW) + back(BLUE) + code + words("Achtung ") + blocks("####")
     page += at(10, 2) + words("Lauflicht") + at(10, 14) + fore(RED)
     page += (flash_mode(5) + blocks("#")) * 18
-    page += at(12, 2) + words("unterlegt") + at(12, 14) + LINED + words("mit Linie ") + blocks("####/\\")
+    page += at(12, 2) + words("mit Linie") + at(12, 14) + LINED + words("unterstrichen ") + blocks("####/\\")
     page += at(14, 2) + words("im Kasten") + at(14, 14) + fore(CYAN) + BOXED + words("sieben") + BOTH + words("groß")
     page += at(17, 2) + words("umgekehrt") + at(17, 14) + fore(GREEN) + INVERTED + words("Grund und Schrift")
     page += UPRIGHT + words(" wie sonst")
