@@ -96,6 +96,7 @@ function fetched(address) {
   const known = asked.get(address) || new Promise((done) => {
     const element = script(address);
     for (const kind of ["load", "error"]) element.addEventListener(kind, done);
+    element.addEventListener("error", () => { part("part-missing").hidden = false; });
   });
   asked.set(address, known);
   return known;
@@ -174,7 +175,7 @@ async function showMore() {
   await Promise.all([...new Set(next.map(partOf))].map((number) => fetched(`entries/${number}.js`)));
   if (mine !== turn) return;
   if (!begun) part("tiles").replaceChildren();
-  part("tiles").append(...next.map(tile));
+  part("tiles").append(...next.filter((number) => parts.has(partOf(number))).map(tile));
   showUpTo(begun + next.length);
 }
 
@@ -208,7 +209,7 @@ function readAddress() {
 function keepAddress() {
   const address = addressOf(folder);
   if ((window.location.hash || "#") !== address) window.history.replaceState(null, "", address);
-  kept("sessionStorage", `tamligub-index ${window.location.href.split("#")[0]}`, address === "#" ? "" : address);
+  kept("sessionStorage", `tamligub-index ${new URL("index.html", window.location.href)}`, address === "#" ? "" : address);
 }
 
 /**
@@ -303,7 +304,7 @@ async function choose() {
   if (mine !== turn) return;
   chosen = numbers(wanted);
   part("count").textContent = countOf();
-  part("none-found").hidden = chosen.length > 0;
+  part("none-found").hidden = chosen.length > 0 || !part("part-missing").hidden;
   shown = 0;
   showFolders();
   showMore();

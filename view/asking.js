@@ -1,6 +1,7 @@
 // Asks the program, which stands beside these modules. A long page is handed to a Worker, so that what is shown goes on meanwhile; where a
 // browser has none the same thread does it.
-import { beside } from "./beside.js";
+import { beside, textOf } from "./beside.js";
+import { TextFault } from "./text.js";
 
 /** @typedef {import("./types.js").Answer} Answer */
 /** @typedef {import("./types.js").Things} Things */
@@ -8,6 +9,10 @@ import { beside } from "./beside.js";
 
 // Of fewer bytes the program tells all within the time of a frame.
 const LONG = 4096;
+// The statuses of a page that is read to its end, and the others that have words of their own, those of `btx`.
+const WHOLE = [0, 1];
+const NO_ROOM = 5;
+const ENDS = [4, 6, 7];
 const ANSWERS = `onmessage = ({ data: { number, module, word, things } }) => {
   try {
     postMessage({ number, answer: run(module, word, things) });
@@ -95,4 +100,21 @@ export async function ask(module, word, things) {
     if (!(fault instanceof NoWorker)) throw fault;
     return beside().run(module, word, things);
   }
+}
+
+/**
+ * That the program ended with a status, and what that says of a page.
+ * @param {number} status
+ */
+export const statusFault = (status) => new TextFault(ENDS.includes(status) ? `ended${status}` : "ended", { status });
+
+/**
+ * The text of an answer that is whole. A browser gives an empty one of bytes whose text would be longer than it can hold.
+ * @param {Answer} answer
+ */
+export function wholeText({ status, text }) {
+  if (!WHOLE.includes(status) && status !== NO_ROOM) throw statusFault(status);
+  const shown = status === NO_ROOM ? "" : textOf(text);
+  if (!shown && text.length) throw new TextFault("textTooLong");
+  return shown;
 }

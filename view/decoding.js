@@ -1,22 +1,19 @@
 // Stored pages as they are handed to the browser, and what the program puts of each: which files a drop has, in folders too, and the words for a
 // page that can't be shown.
-import { ask } from "./asking.js";
+import { ask, statusFault, wholeText } from "./asking.js";
 import { textOf } from "./beside.js";
 import { word } from "./language.js";
-import { readChanges } from "./text.js";
+import { TextFault, readChanges } from "./text.js";
 
 /** @typedef {import("./types.js").File} Stored */
 /** @typedef {import("./types.js").Page} Page */
 /** @typedef {{ path: string, file: File }} Found */
 
-const WHOLE = [0, 1];
 const [UNREAD, NO_MEMORY] = [4, 6];
 // Each phase of the flash once, and back to the first.
 const TURNS = 6;
 const TURNED = /^[1-9]/m;
 const PAGE = /\.btx$/i;
-// Where a page isn't decoded to its end there are the words of `btx` for these statuses.
-const ENDS = [4, 5, 6, 7];
 
 // A page that can't be shown, or a folder without pages, by its name and the words that say why.
 export class PageFault extends Error {
@@ -31,8 +28,10 @@ export class PageFault extends Error {
   }
 }
 
+/** @type {(name: string, fault: TextFault) => PageFault} */
+const pageFault = (name, { key, values }) => new PageFault(name, key, values);
 /** @type {(name: string, status: number) => PageFault} */
-const ended = (name, status) => new PageFault(name, ENDS.includes(status) ? `ended${status}` : "ended", { status });
+const ended = (name, status) => pageFault(name, statusFault(status));
 
 /**
  * Whether the first line of some bytes is a line of `changes`.
@@ -42,7 +41,7 @@ export function isChanges(bytes) {
   const end = bytes.indexOf(0x0a);
   try {
     readChanges(textOf(end < 0 ? bytes : bytes.subarray(0, end)));
-    return bytes.length > 0;
+    return bytes.length > 0 && end !== 0;
   } catch (fault) {
     return false;
   }
@@ -57,14 +56,9 @@ export function isChanges(bytes) {
  */
 async function put(module, what, file, number) {
   try {
-    const answer = await ask(module, what, { page: file.bytes, number });
-    if (!WHOLE.includes(answer.status)) throw ended(file.name, answer.status);
-    const text = textOf(answer.text);
-    // A browser gives no text where it would be longer than it can hold.
-    if (!text && answer.text.length) throw new PageFault(file.name, "textTooLong");
-    return text;
+    return wholeText(await ask(module, what, { page: file.bytes, number }));
   } catch (fault) {
-    throw fault instanceof PageFault ? fault : ended(file.name, NO_MEMORY);
+    throw pageFault(file.name, fault instanceof TextFault ? fault : statusFault(NO_MEMORY));
   }
 }
 

@@ -1,5 +1,5 @@
 // What is opened, pasted or dropped: texts of the program and stored pages.
-import { ask } from "./asking.js";
+import { ask, wholeText } from "./asking.js";
 import { beside, bytesIn, textOf } from "./beside.js";
 import { word } from "./language.js";
 import { part } from "./panels.js";
@@ -28,7 +28,7 @@ function taken(read, bytes) {
  */
 function beginsAsChanges(bytes) {
   const end = bytes.indexOf(0x0a);
-  return taken(readChanges, end < 0 ? bytes : bytes.subarray(0, end));
+  return end !== 0 && taken(readChanges, end < 0 ? bytes : bytes.subarray(0, end));
 }
 
 /**
@@ -80,7 +80,7 @@ export async function chosen() {
   const [changes, page, check, flash] = await Promise.all(["changes", "page", "check", "flash"].map((one) => read(`file-${one}`)));
   return {
     name: changes ? changes.name : word("pasted"),
-    changes: changes ? textOf(changes.bytes) : part("paste").value,
+    changes: changes ? textOf(changes.bytes) : part("paste").value || null,
     page: page ? page.bytes : null,
     check: check ? textOf(check.bytes) : null,
     flash: flash ? textOf(flash.bytes) : null,
@@ -98,7 +98,7 @@ export function embedded() {
 }
 
 /** @param {string} letters */
-function inflated(letters) {
+async function inflated(letters) {
   const { DecompressionStream } = /** @type {any} */ (globalThis);
   const stream = new Blob([bytesIn(letters)]).stream().pipeThrough(new DecompressionStream("deflate"));
   return new Response(stream).text();
@@ -109,20 +109,28 @@ function inflated(letters) {
  * @param {Uint8Array} page
  */
 async function decoded(page) {
-  const bytes = (await ask(await WebAssembly.compile(bytesIn(beside().module)), "changes", { page })).text;
-  const text = textOf(bytes);
-  // A browser gives no text where it would be longer than it can hold.
-  if (!text && bytes.length) throw new TextFault("textTooLong");
-  return text;
+  return wholeText(await ask(await WebAssembly.compile(bytesIn(beside().module)), "changes", { page }));
 }
 
 /**
- * The same pages with their texts of changes: in an archive that of a short page is packed, and a long page is decoded.
+ * The text of changes of a page of an archive: that of a short page is packed, and a long page is decoded. Any fault is one of its text.
+ * @param {Page} page
+ */
+async function changesOf({ page, deflated }) {
+  try {
+    return await (deflated === undefined ? decoded(page || new Uint8Array()) : inflated(deflated));
+  } catch (fault) {
+    throw fault instanceof TextFault ? fault : new TextFault("notRead", { why: fault instanceof Error ? fault.message : String(fault) });
+  }
+}
+
+/**
+ * The same pages with their texts of changes.
  * @param {Page[]} pages
  */
 export async function unpacked(pages) {
   for (const page of pages.filter((one) => one.changes === undefined)) {
-    page.changes = await (page.deflated === undefined ? decoded(page.page || new Uint8Array()) : inflated(page.deflated));
+    page.changes = await changesOf(page);
     delete page.deflated;
   }
   return pages;

@@ -5,7 +5,7 @@ import { compiled } from "./decoder.js";
 import { PageFault, decoded } from "./decoding.js";
 import { grouped, word } from "./language.js";
 import { bytesOfKeys, lookText } from "./notices.js";
-import { part, say } from "./panels.js";
+import { part, say, tell } from "./panels.js";
 import { CELLS, COLUMNS, Looks, PHASES } from "./text.js";
 import { begun, viewer } from "./viewer.js";
 
@@ -14,10 +14,14 @@ import { begun, viewer } from "./viewer.js";
 
 const PHASE_TIME = 1000 / PHASES;
 const PLACE = 1;
+// What is said of a page, and isn't known of a line.
+const UNKNOWN = ["count-moments", "count-last", "count-all", "count-whole", "cell-line", "cell-bytes", "refusals-count"];
 /**
- * The line that was opened last.
+ * The line that is asked for and isn't open yet, and the one that was opened last.
  * @type {Line | null}
  */
+let asked = null;
+/** @type {Line | null} */
 let last = null;
 
 export class Line {
@@ -33,9 +37,10 @@ export class Line {
     this.decoder = new (beside().Decoder)(module);
     this.known = new Looks();
     this.looks = this.known.list;
+    // The looks as the phase of now has them, and of each place that flashes the one with its sign as it is seen.
     this.grid = new Uint32Array(CELLS);
-    /** @type {Set<number>} */
-    this.flashing = new Set();
+    /** @type {Map<number, number>} */
+    this.flashing = new Map();
     /** @type {Uint8Array[]} */
     this.pieces = [];
     /** @type {number[][]} */
@@ -53,12 +58,13 @@ export class Line {
 
   opened() {
     this.begun = performance.now();
+    asked = null;
     last = this;
     // For tests, which look into it.
     Object.assign(beside(), { line: this });
     this.viewer.watch(this);
     this.show();
-    tell(0);
+    this.viewer.text();
     offer(true);
     part("line-save").disabled = false;
     say("state", word("lineOpen"));
@@ -69,40 +75,59 @@ export class Line {
     this.pieces.push(bytes);
     this.times.push([Math.floor(performance.now() - this.begun), bytes.length]);
     this.count += bytes.length;
-    tell(this.count);
+    say("count-bytes", grouped(this.count));
     const notices = this.decoder.feed(bytes);
+    this.take(notices);
     for (const { kind, row, column, flash } of notices) {
-      const cell = (row - 1) * COLUMNS + column - 1;
-      if (kind === PLACE && flash) this.flashing.add(cell);
+      const cell = cellAt(row, column);
+      if (kind === PLACE && flash) this.flashing.set(cell, this.grid[cell]);
       else if (kind === PLACE) this.flashing.delete(cell);
     }
-    this.take(notices);
     this.flash();
+    this.viewer.text();
   }
 
   /**
-   * Takes the places that are told, and paints those that look otherwise.
+   * Takes the places that are told.
    * @param {Notice[]} notices
    */
   take(notices) {
     for (const it of notices) {
-      if (it.kind === PLACE) this.grid[(it.row - 1) * COLUMNS + it.column - 1] = this.known.number(lookText(it));
+      if (it.kind === PLACE) this.grid[cellAt(it.row, it.column)] = this.known.number(lookText(it));
     }
+  }
+
+  // What is on the screen, with each sign that flashes as it is seen.
+  seen() {
+    const grid = this.grid.slice();
+    this.flashing.forEach((number, cell) => { grid[cell] = number; });
+    return { looks: this.looks, grid };
+  }
+
+  // Paints the places that look otherwise: in the phase of now, or as they are seen where no flash is wanted.
+  show() {
+    this.viewer.screen.show(part("flash").checked ? this.grid : this.seen().grid);
+  }
+
+  // Says its name and how many bytes have come.
+  tell() {
+    UNKNOWN.forEach((id) => say(id, ""));
+    part("refusals").replaceChildren();
+    say("name", this.name);
+    say("count-bytes", grouped(this.count));
+  }
+
+  // Has phases come while something flashes, and that is wanted.
+  flash() {
+    const wanted = this.flashing.size > 0 && part("flash").checked;
+    if (wanted && !this.phases) this.phases = setInterval(() => this.turn(), PHASE_TIME);
+    if (!wanted) this.rest();
     this.show();
   }
 
-  show() {
-    this.viewer.screen.show(this.grid);
-  }
-
-  // Has phases come while something flashes.
-  flash() {
-    if (this.flashing.size && !this.phases) this.phases = setInterval(() => this.turn(), PHASE_TIME);
-    if (!this.flashing.size) this.rest();
-  }
-
   turn() {
-    if (part("flash").checked) this.take(this.decoder.flashTurn());
+    this.take(this.decoder.flashTurn());
+    this.show();
   }
 
   rest() {
@@ -112,7 +137,8 @@ export class Line {
 
   /** @param {string} text */
   send(text) {
-    this.socket.send(bytesOfKeys(text));
+    const bytes = bytesOfKeys(text);
+    if (bytes.length) this.socket.send(bytes);
   }
 
   // Ends the line from here.
@@ -124,7 +150,8 @@ export class Line {
 
   close() {
     this.rest();
-    // Another one may be watched, where this one didn't open.
+    if (asked === this) asked = null;
+    // One that didn't open isn't watched.
     if (this.viewer.line === this) {
       this.viewer.unwatch();
       offer(false);
@@ -136,42 +163,45 @@ export class Line {
   async ended() {
     const came = this.viewer.line === this;
     this.close();
-    if (!came) say("fault", word("of", { name: this.name, why: word("lineUnopened") }));
+    if (!came) tell("fault", () => word("of", { name: this.name, why: word("lineUnopened") }));
     else await keep(this);
   }
 }
 
 /**
- * Whether a line can be left, and keys sent.
+ * The number of a cell.
+ * @param {number} row
+ * @param {number} column
+ */
+function cellAt(row, column) {
+  return (row - 1) * COLUMNS + column - 1;
+}
+
+/**
+ * Whether a line can be left, and keys sent; else another one can be watched. The focus isn't left on a button that is off.
  * @param {boolean} isOpen
  */
 function offer(isOpen) {
   part("line-leave").disabled = part("line-keys").disabled = !isOpen;
+  if (isOpen && document.activeElement === part("line-watch")) part("line-keys").focus();
+  part("line-watch").disabled = isOpen;
 }
 
 /**
- * Says how many bytes have come; what else is said of a page isn't known of a line.
- * @param {number} bytes
- */
-function tell(bytes) {
-  const unknown = ["count-moments", "count-last", "count-all", "count-whole", "cell-line", "cell-bytes", "refusals-count", "text"];
-  unknown.forEach((id) => say(id, ""));
-  part("refusals").replaceChildren();
-  say("count-bytes", grouped(bytes));
-}
-
-/**
- * Shows what came over a line as a page, with its own time; one that is too long is told.
+ * Shows what came over a line as a page, with its own time; one that is too long is told. No other line begins meanwhile.
  * @param {Line} line
  */
 async function keep(line) {
+  part("line-watch").disabled = true;
   const bytes = new Uint8Array(await new Blob(line.pieces).arrayBuffer());
   try {
     line.viewer.take([{ ...await decoded(line.module, { name: line.name, bytes }), times: line.times }]);
     say("state", word("lineEnded"));
   } catch (fault) {
     if (!(fault instanceof PageFault)) throw fault;
-    say("fault", fault.told());
+    tell("fault", fault.told);
+  } finally {
+    part("line-watch").disabled = false;
   }
 }
 
@@ -186,22 +216,30 @@ function save() {
   say("state", word("lineSaved"));
 }
 
-/** @param {Event} event */
+/**
+ * Asks for a line, in place of one that isn't open yet.
+ * @param {Event} event
+ */
 async function open(event) {
   event.preventDefault();
-  say("fault", "");
+  if (part("line-watch").disabled) return;
+  tell("fault", () => "");
   const module = await compiled;
   const address = part("line-address").value.trim();
+  if (asked) asked.leave();
   try {
-    new Line(viewer, module, address);
+    asked = new Line(viewer, module, address);
   } catch (fault) {
-    say("fault", word("of", { name: address, why: word("lineNowhere") }));
+    tell("fault", () => word("of", { name: address, why: word("lineNowhere") }));
   }
 }
 
 function joinLine() {
   part("line-part").hidden = false;
-  if (window.location.protocol === "http:") part("line-address").value = `ws://${window.location.host}/`;
+  if (window.location.protocol === "http:") {
+    part("line-address").value = `ws://${window.location.host}/`;
+    part("line-part").open = true;
+  }
   part("line").addEventListener("submit", open);
   part("line-save").addEventListener("click", save);
   part("line-leave").addEventListener("click", () => {

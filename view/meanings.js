@@ -7,6 +7,7 @@ const GERMAN = {
   "too many levels of symbolic links": "zu viele Links hintereinander", "input/output error": "Fehler beim Lesen",
   "too long": "zu lang", "more than 16,777,216 bytes": "mehr als 16.777.216 Bytes", "not enough memory": "zu wenig Speicher",
   "not made": "nicht gemacht", "its name is too long for a file of an archive": "der Name ist zu lang für eine Datei eines Archivs",
+  "its name is none for the file system of the website": "ein Dateisystem wie das der Website hat keinen solchen Namen",
   "another page has its place": "eine andere Seite hat ihren Platz",
   "no longer in the collection": "nicht mehr in der Sammlung", "its folder can't be read now": "ihr Ordner ist jetzt nicht lesbar",
 };

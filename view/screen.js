@@ -1,5 +1,5 @@
 // The canvas: it keeps which look each cell shows, and paints a cell only where that differs from what it is to show.
-import { DOTS, appearance, phaseSeen, seenText } from "./dots.js";
+import { DOTS, appearance, foreOf, phaseSeen, seenText } from "./dots.js";
 import { Painter } from "./paint.js";
 import { CELLS, COLUMNS, ROWS } from "./text.js";
 
@@ -140,8 +140,12 @@ export class Screen {
    * @param {boolean} revealed
    */
   turn(phase, revealed) {
-    /** @type {(look: Look, asked: number | null, all: boolean) => number} */
-    const shown = (look, asked, all) => appearance(look, this.phaseOf(look, asked), all);
+    /** @type {(look: Look, asked: number | null, all: boolean) => string} */
+    const shown = (look, asked, all) => {
+      const now = this.phaseOf(look, asked);
+      // The frame of a sign is in its foreground, also where the sign isn't seen.
+      return `${appearance(look, now, all)}${look.boxed ? foreOf(look, now) : ""}`;
+    };
     /** @type {number[]} */
     const changed = [];
     this.shown.forEach((number, cell) => {

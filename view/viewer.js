@@ -16,6 +16,29 @@ const SMALL_CELL = 6;
 const LEAST_CELL = 6;
 const ARROWS = new Map(Object.entries({ ArrowUp: [-1, 0], ArrowDown: [1, 0], ArrowLeft: [0, -1], ArrowRight: [0, 1] }));
 
+/**
+ * Says why the text of a page can't be shown; any other fault goes on.
+ * @param {string} name
+ * @param {unknown} fault
+ */
+function tellFault(name, fault) {
+  if (!(fault instanceof TextFault)) throw fault;
+  const { key, values } = fault;
+  tell("fault", () => word("of", { name, why: word(key, values) }));
+}
+
+/**
+ * What a part of an address stands for; one that no address can have stands for itself.
+ * @param {string} text
+ */
+function nameIn(text) {
+  try {
+    return decodeURIComponent(text);
+  } catch (fault) {
+    return text;
+  }
+}
+
 export class Viewer {
   constructor() {
     /** @type {Page[]} */
@@ -69,7 +92,6 @@ export class Viewer {
    * @param {Page[]} pages
    */
   take(pages) {
-    if (this.line) this.line.leave();
     this.pages = pages;
     this.awaits = false;
     showIndex(pages, (number) => this.open(number), (page, canvas) => this.small(page, canvas));
@@ -77,12 +99,25 @@ export class Viewer {
   }
 
   /**
-   * Takes the texts of one page.
+   * What is shown of a page: its film, and what its text of check says.
+   * @param {Page} page
+   */
+  readingOf(page) {
+    return { film: this.filmOf(page), check: page.check ? readCheck(page.check) : null };
+  }
+
+  /**
+   * Takes the texts of one page. Where they aren't understood the pages that are there stay.
    * @param {Page} parts
    */
   takeParts(parts) {
-    if (parts.changes === null) tell("fault", () => word("noChanges"));
-    else this.take([parts]);
+    if (parts.changes === null) return tell("fault", () => word("noChanges"));
+    try {
+      this.readingOf(parts);
+    } catch (fault) {
+      return tellFault(parts.name, fault);
+    }
+    this.take([parts]);
   }
 
   /** @param {number} number */
@@ -93,16 +128,18 @@ export class Viewer {
       this.show(page);
       markIndex(number);
     } catch (fault) {
-      if (!(fault instanceof TextFault)) throw fault;
-      const { key, values } = fault;
-      tell("fault", () => word("of", { name: page.name, why: word(key, values) }));
+      tellFault(page.name, fault);
     }
   }
 
-  /** @param {Page} page */
+  /**
+   * Shows a page, in place of a line too: that is left, and what came over it can still be saved.
+   * @param {Page} page
+   */
   show(page) {
-    const film = this.filmOf(page);
-    this.check = page.check ? readCheck(page.check) : null;
+    const { film, check } = this.readingOf(page);
+    if (this.line) this.line.leave();
+    this.check = check;
     this.page = page;
     this.pointed = -1;
     this.screen.looks = film.changes.looks;
@@ -134,7 +171,6 @@ export class Viewer {
    * @param {Line} line
    */
   watch(line) {
-    if (this.line) this.line.leave();
     this.player.close();
     this.page = null;
     this.line = line;
@@ -143,8 +179,9 @@ export class Viewer {
     this.screen.looks = line.looks;
     this.screen.forget();
     this.screen.outline([], -1);
-    say("name", line.name);
-    say("fault", "");
+    markIndex(-1);
+    this.sayPage();
+    tell("fault", () => "");
   }
 
   // Shows a line no longer.
@@ -187,9 +224,10 @@ export class Viewer {
     this.screen.outline(cells, this.pointed);
   }
 
+  // Fills the text of the page where that is open.
   text() {
-    const shown = this.shown();
-    if (part("text-part").open && shown) say("text", textOfRows(shown, part("reveal").checked));
+    const shown = part("text-part").open ? this.shown() : null;
+    if (shown) say("text", textOfRows(shown, part("reveal").checked));
   }
 
   /** @param {number} cell */
@@ -275,7 +313,8 @@ export class Viewer {
   // What is on the screen, or null where nothing was opened.
   shown() {
     const film = this.film();
-    return film ? { looks: film.changes.looks, grid: film.grid } : this.line;
+    if (film) return { looks: film.changes.looks, grid: film.grid };
+    return this.line && this.line.seen();
   }
 
   async copy() {
@@ -305,8 +344,9 @@ export class Viewer {
     });
   }
 
-  // Says what the page is, until something in it is pointed at.
+  // Says what the page is, until something in it is pointed at; or the line.
   sayPage() {
+    if (this.line) return this.line.tell();
     say("name", this.page ? this.page.name : word(this.awaits ? "reading" : "noPage"));
     if (this.pointed < 0) {
       say("cell-line", word("pointAt"));
@@ -329,7 +369,7 @@ export class Viewer {
   follow() {
     const found = /^#(.*)@(\d+)$/.exec(window.location.hash);
     if (!found) return;
-    const name = decodeURIComponent(found[1]);
+    const name = nameIn(found[1]);
     const number = this.pages.findIndex((page) => page.name === name);
     if (number < 0) return;
     if (this.pages[number] !== this.page) this.open(number);
@@ -386,6 +426,14 @@ function onArrow(event) {
   say("state", part("cell-line").textContent);
 }
 
+/**
+ * Follows a link to what the address has already, since then no change of the address tells of it.
+ * @param {Event} event
+ */
+function onLink({ target }) {
+  if (target instanceof HTMLAnchorElement && target.hash === window.location.hash) viewer.follow();
+}
+
 function joinControls() {
   const { player } = viewer;
   /** @type {(id: string, kind: string, act: (event: any) => void) => void} */
@@ -405,6 +453,7 @@ function joinControls() {
   on("flash", "change", () => {
     viewer.flash();
     if (!viewer.flashing) viewer.rest();
+    if (viewer.line) viewer.line.flash();
   });
   on("reveal", "change", () => {
     viewer.turn(viewer.screen.phase);
@@ -417,6 +466,7 @@ function joinControls() {
   on("screen", "mousemove", (event) => viewer.point(viewer.screen.cellAt(event.clientX, event.clientY)));
   on("screen", "click", (event) => viewer.point(viewer.screen.cellAt(event.clientX, event.clientY)));
   on("screen", "keydown", (event) => onArrow(event));
+  on("refusals", "click", onLink);
   const keys = keysOf();
   document.addEventListener("keydown", (event) => onKey(keys, event));
 }
@@ -461,14 +511,13 @@ async function begin() {
   window.addEventListener("resize", () => viewer.lay());
   onDensity(() => viewer.lay());
   window.addEventListener("hashchange", () => viewer.follow());
-  try {
-    viewer.take(await unpacked(inside));
-    viewer.follow();
-  } catch (fault) {
-    if (!(fault instanceof TextFault)) throw fault;
-    const { key, values } = fault;
-    tell("fault", () => word("of", { name: inside[0].name, why: word(key, values) }));
-  }
+  viewer.take(await unpacked(inside).catch((fault) => {
+    viewer.expect(false);
+    viewer.sayPage();
+    tellFault(inside[0].name, fault);
+    return [];
+  }));
+  viewer.follow();
   part("open-part").open = !viewer.pages.length;
 }
 

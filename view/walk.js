@@ -4,7 +4,7 @@ import { kept, onLanguage, title, word } from "./language.js";
 /** @typedef {[address: string, title: string] | null} Step */
 
 const nav = /** @type {HTMLElement} */ (document.getElementById("walk"));
-const here = /** @type {{ up: string, part: string, address: string }} */ (/** @type {any} */ (nav.dataset));
+const here = /** @type {{ up: string, part: string, address: string, path: string }} */ (/** @type {any} */ (nav.dataset));
 const heading = /** @type {HTMLAnchorElement} */ (document.querySelector("h1 a"));
 const index = `${here.up}index.html`;
 /** @type {Step[] | null} */
@@ -23,21 +23,9 @@ function link(text, address, relation = "") {
   return element;
 }
 
-/**
- * An address as text; bytes that are no UTF-8 are escaped as in the index.
- * @param {string} address
- */
-const decoded = (address) => address.split("/").map((one) => {
-  try {
-    return decodeURIComponent(one);
-  } catch (fault) {
-    return one.replace(/%([89A-F][0-9A-F])/g, (_, digits) => `\\x${digits.toLowerCase()}`).replace(/%([0-7][0-9A-F])/g, decodeURIComponent);
-  }
-}).join("/");
-
-// The folders of the page, each a link to the index of what is in it.
+// The folders of the page, named as the index names them, each a link to the index of what is in it.
 function folders() {
-  const names = decoded(here.address).split("/").slice(0, -1);
+  const names = here.path.split("/").slice(0, -1);
   return names.map((name, at) => link(`${name}/`, `${index}#${new URLSearchParams({ folder: names.slice(0, at + 1).join("/") + "/" })}`));
 }
 

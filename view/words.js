@@ -8,7 +8,8 @@ const GERMAN = {
   folders: "Ordner", allFolders: "alle Ordner", count: "{some} von {all} Seiten", unreadFolders: "nicht gelesene Ordner: {some}",
   bytes: "{bytes} Bytes", status: "Status {status}",
   items: "{refused} von {items} Elementen abgewiesen", same: "Bildschirm wie {name}",
-  noneFound: "Keine Seite hat all das.", before: "vorige Seite", after: "nächste Seite", walk: "Zu anderen Seiten",
+  noneFound: "Keine Seite hat all das.", partMissing: "Ein Teil dieser Website fehlt; derselbe Aufruf von btx archive macht ihn wieder.",
+  before: "vorige Seite", after: "nächste Seite", walk: "Zu anderen Seiten",
   // The viewer: screen and course.
   viewer: "Tamligub: eine Seite, wie sie entsteht", noPage: "Keine Seite ist geöffnet.", reading: "Die Seite wird gelesen …",
   pages: "Seiten", screen: "Bildschirm",
@@ -42,9 +43,10 @@ const GERMAN = {
   openShow: "Zeigen", pasted: "eingefügter Text",
   // A line that is watched.
   line: "Eine Leitung beobachten", speedOwn: "eigene Zeit",
-  lineWords: "Öffnet einen WebSocket, wie ihn btx host --web hat, und zeigt, was darüber kommt, sobald es kommt. Endet die Leitung oder wird "
-    + "sie verlassen, ist das Gekommene eine Seite; sichern lässt es sich jederzeit. Was unter „Eingabe“ steht, geht mit der Eingabetaste "
-    + "hinaus: * und # beginnen und beenden einen Abruf, und was nicht zu ASCII gehört, bleibt hier.",
+  lineWords: "Öffnet einen WebSocket, wie ihn btx host --web hat, und zeigt, was darüber kommt, sobald es kommt. Endet die Leitung oder "
+    + "wird sie mit dem Knopf verlassen, ist das Gekommene eine Seite; wer eine andere Seite öffnet, verlässt die Leitung auch. Sichern "
+    + "lässt sich das Gekommene, bis die nächste Leitung offen ist. Was unter „Eingabe“ steht, geht mit der Eingabetaste hinaus: * und # "
+    + "beginnen und beenden einen Abruf, und was nicht zu ASCII gehört, bleibt hier.",
   lineAddress: "Adresse", lineWatch: "Beobachten", lineLeave: "Verlassen", lineSave: "Gekommenes sichern", lineKeys: "Eingabe",
   lineOpen: "Die Leitung ist offen.", lineEnded: "Die Leitung ist zu Ende. Was kam, ist eine Seite.", lineSaved: "Das Gekommene ist gesichert.",
   lineUnopened: "die Leitung lässt sich nicht öffnen", lineNowhere: "das ist keine Adresse eines WebSockets",
@@ -54,13 +56,14 @@ const GERMAN = {
   keysSpeed: "1.200, 2.400, 9.600 bit/s, sofort", keysShown: "Umrandungen, Verdecktes, Blinken", keysCopy: "Text kopieren, Bild sichern",
   keysArrows: "auf dem Bildschirm: auf eine Zelle zeigen",
   // What can't be shown.
-  of: "{name}: {why}", noChanges: "Der Text von changes dieser Seite fehlt.", otherFlash: "Der Text von flash ist von einer anderen Seite.",
+  of: "{name}: {why}", noChanges: "Der Text von changes fehlt.", otherFlash: "Der Text von flash ist von einer anderen Seite.",
   openFlash: "Der Text von flash führt nicht zur ersten Phase zurück; der von flash SEITE 6 tut es.",
   notChanges: "Zeile {number} ist keine Zeile von changes: „{line}“", notTrace: "Zeile {number} ist keine Zeile von trace: „{line}“",
   notFlash: "Zeile {number} ist keine Zeile von flash: „{line}“", notCells: "Zeile {number} ist keine Zeile von cells: „{line}“",
   notRefusal: "Zeile {number} ist keine Abweisung: „{line}“", notCheck: "Zeile {number} ist keine letzte Zeile von check: „{line}“",
-  ended4: "sie lässt sich nicht bis zum Ende lesen", ended5: "für ihren Text ist nicht genug Platz; nur sein Anfang wurde geschrieben",
+  ended4: "sie lässt sich nicht bis zum Ende lesen",
   ended6: "der Speicher reicht nicht; nichts wurde geschrieben",
+  notRead: "was sich auf ihr ändert, ließ sich hier nicht lesen: {why}",
   textTooLong: "was sich auf ihr ändert, ist als Text länger, als der Browser es fasst; btx changes schreibt es",
   ended7: "die Seite hat mehr als 16.777.216 Bytes; nur die Elemente der ersten 16.777.216 wurden gelesen",
   ended: "das Programm endete mit Status {status}", noPages: "keine Datei darin endet auf .btx",
@@ -73,7 +76,8 @@ const ENGLISH = {
   folders: "Folders", allFolders: "all folders", count: "{some} of {all} pages", unreadFolders: "folders not read: {some}",
   bytes: "{bytes} bytes", status: "status {status}",
   items: "{refused} of {items} items refused", same: "screen as {name}",
-  noneFound: "No page has all of that.", before: "page before", after: "next page", walk: "To other pages",
+  noneFound: "No page has all of that.", partMissing: "A part of this website is missing; the same command of btx archive makes it again.",
+  before: "page before", after: "next page", walk: "To other pages",
   viewer: "Tamligub: a page being built", noPage: "No page is open.", reading: "The page is being read …", pages: "Pages", screen: "Screen",
   screenName: "24 rows of 40 cells. The arrow keys point at a cell; the text of the page stands below.", place: "Bytes",
   course: "Course of the page", toStart: "To the start", step: "Step", backward: "back", forward: "forward", play: "Play", pause: "Pause",
@@ -101,9 +105,9 @@ const ENGLISH = {
   fileChanges: "Text of changes", paste: "or pasted", filePage: "Stored page", fileCheck: "Text of check", fileFlash: "Text of flash",
   openShow: "Show", pasted: "pasted text",
   line: "Watch a line", speedOwn: "its own time",
-  lineWords: "Opens a WebSocket, such as btx host --web has, and shows what comes over it as it comes. When it ends, or is left, what came is "
-    + "a page, and it can be saved as one at any time. What is written under “Input” is sent when Return is pressed: * and # begin and end "
-    + "a request, and what isn't ASCII stays here.",
+  lineWords: "Opens a WebSocket, such as btx host --web has, and shows what comes over it as it comes. When it ends, or is left by the "
+    + "button, what came is a page; who opens another page leaves the line too. What came can be saved until the next line is open. What "
+    + "is written under “Input” is sent when Return is pressed: * and # begin and end a request, and what isn't ASCII stays here.",
   lineAddress: "Address", lineWatch: "Watch", lineLeave: "Leave", lineSave: "Save what came", lineKeys: "Input",
   lineOpen: "The line is open.", lineEnded: "The line has ended. What came is a page.", lineSaved: "What came is saved.",
   lineUnopened: "the line can't be opened", lineNowhere: "this is no address of a WebSocket",
@@ -111,14 +115,15 @@ const ENGLISH = {
   keysPlay: "play, pause", keysStep: "one command forward, back", keysEnds: "to the start, to the end",
   keysSpeed: "1,200, 2,400, 9,600 bit/s, at once", keysShown: "outlines, reveal, flash", keysCopy: "copy the text, save the picture",
   keysArrows: "on the screen: point at a cell",
-  of: "{name}: {why}", noChanges: "The text of changes of its page isn't there.", otherFlash: "The text of flash is of another page.",
+  of: "{name}: {why}", noChanges: "The text of changes isn't there.", otherFlash: "The text of flash is of another page.",
   openFlash: "The text of flash doesn't lead back to its first phase; that of flash PAGE 6 does.",
   notChanges: "Line {number} is not understood as a change line or a refusal: “{line}”",
   notTrace: "Line {number} is not understood as a line of trace: “{line}”",
   notFlash: "Line {number} is not understood as a line of flash: “{line}”", notCells: "Line {number} is not understood as a cell line: “{line}”",
   notRefusal: "Line {number} is not understood as a refusal: “{line}”", notCheck: "Line {number} is not understood as a check line: “{line}”",
-  ended4: "it could not be read to its end", ended5: "its text is longer than there is room for; only the front of it was written",
+  ended4: "it could not be read to its end",
   ended6: "there is not enough memory; nothing was written",
+  notRead: "what changes on it could not be read here: {why}",
   textTooLong: "what changes on it is longer as a text than the browser can hold; btx changes writes it",
   ended7: "the page has more than 16,777,216 bytes; only the items of the first 16,777,216 were read",
   ended: "the program ended with status {status}", noPages: "no file in it ends in .btx",

@@ -495,6 +495,28 @@ def refusals_are_listed_and_lead_to_their_moments(tab, stand):
         tab.value(f"document.querySelectorAll('#refusals a')[{index}].click()")
         tab.until(f"Tamligub.viewer.player.come === {int(refusal[1]) + 1}")
         assert tab.value("Tamligub.viewer.film().moments[Tamligub.viewer.film().moment - 1].place") == int(refusal[1]), "the moment"
+        # The address is that of the link already.
+        tab.value(f"Tamligub.viewer.player.toEnd(); document.querySelectorAll('#refusals a')[{index}].click()")
+        tab.until(f"Tamligub.viewer.player.come === {int(refusal[1]) + 1}")
+
+
+def an_address_names_a_page_as_it_is_or_as_addresses_have_it(tab, stand):
+    """Also a name that can't stand so in an address: it is followed as the viewer begins, and later."""
+    paths = [stand.kept(name, "ABC") for name in ("first.btx", "100%.btx", "ä b.btx")]
+    html = stand.written("names.html", paths)
+    here = "Tamligub.begun.then(() => [Tamligub.viewer.page.name, Tamligub.viewer.player.come])"
+    changed = """new Promise((done) => {
+      addEventListener("hashchange", ({ newURL }) => newURL.endsWith("%s") && setTimeout(done));
+      Object.assign(location, { hash: "%s" });
+    })"""
+    for end, name in (("#100%@0", "100%"), ("#100%25@0", "100%"), ("#%C3%A4%20b@0", "ä b"), ("#%@0", "first")):
+        come = 3 if name == "first" else 1
+        tab.open(html + end)
+        assert tab.value(here) == [name, come], f"{end} at first"
+        tab.value("Tamligub.viewer.open(0), 0")
+        tab.value(changed % ("#", "#"))
+        tab.value(changed % (end, end))
+        assert tab.value(here) == [name, come], end
 
 
 def no_byte_of_a_page_is_markup(tab, stand):
@@ -545,92 +567,6 @@ def a_pointer_over_the_screen_names_the_cell(tab, stand):
     x, y = box[0] + box[2] * 11.5 / 40, box[1] + box[3] * 2.5 / 24
     tab.call("Input.dispatchMouseEvent", type="mouseMoved", x=x, y=y)
     tab.until("Tamligub.part('cell-line').textContent.startsWith('Row 3, column 12: ')")
-
-
-def text_that_is_no_changes_names_its_line(tab, stand):
-    tab.open(stand.bare)
-    good = "0 1 1 P41 11.00 FFF 000 S---\n"
-    for text, number in (
-        ("<b>hello</b>\n", 1),
-        (good + "1 1 2 P42 11.00 FFF 000 S--\n", 2),
-        (good + good.replace("0 1 1", "0 25 1"), 2),
-        (good + "3 1 1 %12x10x1/FF 11.00 FFF 000 S---\n", 2),
-        ("5 1 1 P41 11.00 FFF 000 S---\n" + good, 2),
-        (good + "! 4 2 6 Interrupted\n\n5 1 1 - 11.00 FFF 000 S---\n", 3),
-        ("items 3 refused 0\n", 1),
-    ):
-        tab.value(f"Tamligub.part('paste').value = {json.dumps(text)}; document.querySelector('#open button').click()")
-        tab.until(f"Tamligub.part('fault').textContent.includes('Line {number} is not understood')")
-        tab.value("Tamligub.part('fault').textContent = ''")
-    tab.value(f"Tamligub.part('paste').value = {json.dumps(good)}; document.querySelector('#open button').click()")
-    tab.until("Tamligub.viewer.film() !== null")
-    assert tab.value("Tamligub.part('fault').textContent") == "", "a good text is refused"
-    assert tab.value("document.querySelectorAll('b').length") == 0, "a text became markup"
-
-
-def files_are_opened_and_dropped(tab, stand):
-    tab.open(stand.bare)
-    tab.value(PROBES)
-    paths = {
-        "file-changes": stand.kept("refused.changes", stand.put("changes", "refused")),
-        "file-page": stand.path("refused"),
-        "file-check": stand.kept("refused.check", stand.put("check", "refused")),
-    }
-    root = tab.call("DOM.getDocument")["root"]["nodeId"]
-    for name, path in paths.items():
-        node = tab.call("DOM.querySelector", nodeId=root, selector="#" + name)["nodeId"]
-        tab.call("DOM.setFileInputFiles", nodeId=node, files=[path])
-    tab.value("document.querySelector('#open button').click()")
-    tab.until("Tamligub.viewer.film() !== null")
-    compare(tab, looks_at_end(stand, "refused"), 0, False, "opened")
-    assert "items are refused" in tab.value("Tamligub.part('refusals-count').textContent"), "check isn't taken"
-    script = """(async () => {
-      const data = new DataTransfer();
-      const names = ["file-check", "file-page", "file-changes"];
-      for (const name of names) data.items.add(Tamligub.part(name).files[0]);
-      Tamligub.viewer.player.film = null;
-      document.dispatchEvent(new DragEvent("drop", { dataTransfer: data, cancelable: true }));
-    })()"""
-    tab.value(script)
-    tab.until("Tamligub.viewer.film() !== null")
-    size = os.path.getsize(stand.path("refused"))
-    assert tab.value("Tamligub.viewer.film().bytes.length") == size, "the dropped page isn't told from the texts"
-    compare(tab, looks_at_end(stand, "refused"), 0, False, "dropped")
-    tab.value("""(() => {
-      const data = new DataTransfer();
-      data.items.add(Tamligub.part("file-page").files[0]);
-      document.dispatchEvent(new DragEvent("drop", { dataTransfer: data, cancelable: true }));
-    })()""")
-    tab.until("Tamligub.part('fault').textContent.startsWith('refused.btx: Line 1 is not understood')")
-
-
-def the_text_of_flash_is_opened_and_dropped(tab, stand):
-    tab.open(stand.bare)
-    paths = {
-        "file-changes": stand.kept("flashing.changes", stand.put("changes", "flashing")),
-        "file-page": stand.path("flashing"),
-        "file-check": stand.kept("flashing.check", stand.put("check", "flashing")),
-        "file-flash": stand.kept("flashing.flash", stand.put("flash", "flashing", "6")),
-    }
-    root = tab.call("DOM.getDocument")["root"]["nodeId"]
-    for name, path in paths.items():
-        node = tab.call("DOM.querySelector", nodeId=root, selector="#" + name)["nodeId"]
-        tab.call("DOM.setFileInputFiles", nodeId=node, files=[path])
-    tab.value("document.querySelector('#open button').click()")
-    tab.until("Tamligub.viewer.film() !== null && Tamligub.viewer.film().isTold()")
-    drop = """(() => {
-      const data = new DataTransfer();
-      for (const name of %s) data.items.add(Tamligub.part(name).files[0]);
-      document.dispatchEvent(new DragEvent("drop", { dataTransfer: data, cancelable: true }));
-    })()"""
-    for names, told in ((["file-flash", "file-check", "file-page", "file-changes"], True), (["file-changes", "file-flash"], True),
-                        (["file-page", "file-changes"], False)):
-        tab.value("Tamligub.viewer.player.film = null;" + drop % json.dumps(names))
-        tab.until("Tamligub.viewer.film() !== null")
-        assert tab.value("Tamligub.viewer.film().isTold()") is told, names
-        assert tab.value("Tamligub.viewer.page.name") == "flashing.changes", names
-    tab.value(drop % '["file-flash"]')
-    tab.until("Tamligub.part('fault').textContent === \"The text of changes of its page isn't there.\"")
 
 
 def the_index_has_small_pictures(tab, stand):
@@ -718,15 +654,15 @@ def a_big_page_is_painted_cell_by_cell(tab, stand):
 CASES = (
     the_canvas_shows_the_cells, letters_of_a_font_stand_in_their_cells,
     flash_has_six_phases, without_the_flash_each_sign_is_seen, phases_by_the_lines_of_flash_are_those_of_the_looks,
-    lines_of_flash_are_what_is_shown, files_have_the_lines_of_flash_where_a_page_flashes, the_text_of_flash_is_opened_and_dropped,
+    lines_of_flash_are_what_is_shown, files_have_the_lines_of_flash_where_a_page_flashes,
     the_flash_runs_only_where_something_flashes,
     concealed_cells_show_when_revealed, double_density_is_sharp,
     the_slider_shows_what_has_come,
     a_recording_plays_in_its_own_time,
     keys_do_what_buttons_do, all_controls_have_names_and_are_reached, text_and_controls_have_contrast,
     nothing_is_lost_at_200_percent, with_less_motion_nothing_moves,
-    refusals_are_listed_and_lead_to_their_moments, no_byte_of_a_page_is_markup, a_cell_tells_its_line_and_bytes,
-    a_pointer_over_the_screen_names_the_cell, text_that_is_no_changes_names_its_line, files_are_opened_and_dropped,
+    refusals_are_listed_and_lead_to_their_moments, an_address_names_a_page_as_it_is_or_as_addresses_have_it, no_byte_of_a_page_is_markup,
+    a_cell_tells_its_line_and_bytes, a_pointer_over_the_screen_names_the_cell,
     the_index_has_small_pictures, the_picture_and_the_text_can_be_taken, a_big_page_is_painted_cell_by_cell,
     a_big_file_is_read_once,
 )

@@ -83,3 +83,16 @@ test("without a Worker, or with one that can't begin, it is asked in the same th
     }
   }
 });
+
+test("a text that a browser can't hold is no empty one", async () => {
+  const { wholeText } = await import("../asking.js");
+  const { decode } = TextDecoder.prototype;
+  TextDecoder.prototype.decode = () => "";
+  try {
+    assert.throws(() => wholeText({ status: 0, text: SHORT }), (fault) => fault.key === "textTooLong");
+    assert.strictEqual(wholeText({ status: 0, text: new Uint8Array() }), "");
+  } finally {
+    TextDecoder.prototype.decode = decode;
+  }
+  assert.strictEqual(wholeText({ status: 1, text: Uint8Array.from([0x31, 0x0a]) }), "1\n");
+});

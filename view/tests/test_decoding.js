@@ -3,6 +3,7 @@ import assert from "node:assert";
 import { test } from "node:test";
 import { asked, module, pages, restored, stored } from "./stub.js";
 import { PageFault, bytesOf, decoded, handed, isChanges, givenOf, named } from "../decoding.js";
+import { sorted } from "../files.js";
 
 const pageOf = (name) => ({ name, arrayBuffer: async () => new ArrayBuffer(3) });
 const fileEntry = (name) => ({ name, isDirectory: false, file: (done) => done(pageOf(name)) });
@@ -93,4 +94,14 @@ test("a folder without pages, and one that can't be read, are told", async () =>
 test("a text of changes is told from a page", () => {
   const bytes = (text) => new TextEncoder().encode(text);
   assert.deepStrictEqual(["0 1 1 P41 11.00 FFF 000 S---\nx", "! 0 2 6 Interrupted", "hello\n", ""].map((text) => isChanges(bytes(text))), [true, true, false, false]);
+  // A line feed is a command as others: the cursor goes down.
+  assert.deepStrictEqual(["\nA", "\n", "\n0 1 1 P41 11.00 FFF 000 S---\n"].map((text) => isChanges(bytes(text))), [false, false, false]);
+});
+
+test("a page that begins with a line feed stands beside its text of changes", () => {
+  const [page, text] = ["\nA", "1 2 1 P41 11.00 FFF 000 S---\n"].map((one) => new TextEncoder().encode(one));
+  for (const list of [[{ name: "page", bytes: page }, { name: "text", bytes: text }], [{ name: "text", bytes: text }, { name: "page", bytes: page }]]) {
+    const parts = sorted(list);
+    assert.deepStrictEqual([parts.name, parts.changes, parts.page], ["text", "1 2 1 P41 11.00 FFF 000 S---\n", page]);
+  }
 });
