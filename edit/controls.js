@@ -96,6 +96,15 @@ export function rove(list, across = list.length) {
 }
 
 /**
+ * Has Tab reach the first of such a list that isn't hidden, in place of one that is.
+ * @param {HTMLElement[]} list
+ */
+export function reachShown(list) {
+  const [hidden, shown] = [list.find((element) => element.hidden && element.tabIndex === 0), list.find((element) => !element.hidden)];
+  if (hidden && shown) [hidden.tabIndex, shown.tabIndex] = [-1, 0];
+}
+
+/**
  * Tabs: the panel of the chosen one is shown; the arrow keys go to the others.
  * @param {HTMLElement} list
  * @param {(panel: string) => void} shown

@@ -112,9 +112,8 @@ export class Drawing {
     // How the lines came about: each stroke is a step.
     this.steps = new Steps();
     this.strokes = 0;
-    // The lines that were told last, and whether they could be tried on the page.
+    // The lines that were told last.
     this.said = "";
-    this.isTried = false;
     this.cursor = { x: 0, y: 0 };
     /** @type {Point | null} */
     this.anchor = null;
@@ -314,13 +313,14 @@ export class Drawing {
   }
 
   /**
-   * Tells the cells that show something else than was drawn, and the lines of which a part is below the format.
-   * @param {number[]} cells
+   * Tells the cells that show something else than was drawn, or that there are none as nothing changes; and the lines of which a part is below
+   * the format.
+   * @param {number[] | null} cells
    * @param {number[]} lines
    */
   tellLost(cells, lines) {
     const said = [
-      cells.length ? word("drawCovered", { places: firstOf(cells.map((cell) => placeOf(cell).join("/"))) }) : "",
+      !cells ? word("drawNothing") : cells.length ? word("drawCovered", { places: firstOf(cells.map((cell) => placeOf(cell).join("/"))) }) : "",
       lines.length ? word("drawBelow", { rows: this.needs.sheet.rows, lines: firstOf(lines) }) : "",
     ];
     this.fault(said.filter((text) => text).join(" "));
@@ -346,36 +346,37 @@ export class Drawing {
     this.mark();
     this.fault("");
     this.drawn = null;
-    this.isTried = lines.length > 0 && this.needs.ready() && this.tryLine(lines);
+    if (lines.length > 0 && this.needs.ready()) this.tryLine(lines);
     const isOther = this.said !== this.underWay();
     this.said = this.underWay();
     this.tell({ kind: isOther ? "drawn" : "seen" });
   }
 
   /**
-   * Tries lines on the page; one that is wrong is told. Answers whether there is none.
+   * Tries lines on the page; one that is wrong is told.
    * @param {string[]} lines
    */
   tryLine(lines) {
     try {
       const { line, wanted } = this.line(lines);
       this.drawn = line ? this.preview(line, wanted) : null;
-      this.tellLost(this.drawn ? this.drawn.other : [], linesBelow(lines, this.tall()));
-      return true;
+      this.tellLost(this.drawn && this.drawn.other, linesBelow(lines, this.tall()));
     } catch (fault) {
       if (!(fault instanceof BadLine)) throw fault;
       const why = whyBad(fault, lines[fault.line - 1], "drawing", (page) => this.needs.asker.check(page));
       this.fault(word("drawBad", { ...fault, why }));
-      return false;
     }
   }
 
-  // Makes the drawing a line of the script, after a comment that says what was drawn. One that can't be tried stays, and it is said why.
+  // Makes the drawing a line of the script, after a comment that says what was drawn. One that can't be tried or changes nothing stays, and it
+  // is said why.
   keep() {
-    const { drawn, lines, isTried } = this;
-    if (isTried) this.forget();
-    if (isTried && drawn) this.tell({ kind: "act", lines: [`# ${lines.filter((line) => line).join("; ")}`, drawn.line] });
-    if (isTried) this.put();
+    const { drawn, lines } = this;
+    if (drawn) {
+      this.forget();
+      this.tell({ kind: "act", lines: [`# ${lines.filter((line) => line).join("; ")}`, drawn.line] });
+      this.put();
+    }
     this.show();
   }
 

@@ -71,6 +71,7 @@ class Editor {
     const tell = (happening) => this.happened(happening);
     const ready = () => this.ready();
     const named = { paints: () => this.paints(), entryName: (/** @type {number} */ entry) => this.entryName(entry) };
+    const dclut = () => this.sheet.live.dclut();
     const pen = new Pen({ sheet, ...named }, tell);
     const typing = new Typing({ sheet, pen, ready: () => this.writes() && ready(), drawingKey: (event) => this.drawingKey(event) }, tell);
     this.pen = pen;
@@ -80,7 +81,7 @@ class Editor {
     this.drawing = new Drawing({ sheet, asker, pen, ready, caret: () => typing }, tell);
     this.pattern = new PatternEditor({ sheet, asker, ready }, tell);
     this.panel = new Whole({ sheet, at: () => typing.at(), ...named }, tell);
-    this.colours = new ColourPanel(named, tell);
+    this.colours = new ColourPanel({ ...named, dclut }, tell);
     this.listing = new Listing({ sheet, asker }, tell);
     this.cuts = new Cuts({ sheet, asker });
     const underWay = () => ({ drawing: this.drawing.underWay(), painted: this.pattern.underWay() });
@@ -203,10 +204,15 @@ class Editor {
   cut({ items, count, makesLines }) {
     if (!this.ready()) return;
     this.typing.leave();
-    const made = makesLines ? this.cuts.makeLines(items, count) : null;
-    if (!makesLines) this.cuts.cut(items, count, this.sheet.script());
-    this.isOther();
-    this.changed(false, true);
+    let made = null;
+    try {
+      made = makesLines ? this.cuts.makeLines(items, count) : null;
+      if (!makesLines) this.cuts.cut(items, count, this.sheet.script());
+    } finally {
+      // Where a cut fails the page before was opened anew.
+      this.isOther();
+      this.changed(false, true);
+    }
     if (makesLines) this.tell(made ? word("linesMade", made) : word("linesOther"));
     else this.tell(word("cutDone", { bytes: this.sheet.page.length }));
   }
@@ -425,6 +431,7 @@ class Editor {
     if (String(this.paints()) !== this.inks) this.speakPanels();
     else this.pattern.mark();
     this.panel.show();
+    this.colours.showDclut();
     this.flash();
   }
 
@@ -690,7 +697,9 @@ async function begin() {
   });
   if (kept && isBegun(kept)) part(kept.drawing ? "tab-draw" : "tab-pattern").click();
   part("typing").focus();
-  if (kept) editor.tell(word("restored", { name: editor.keep.shownName() }));
+  const { stores } = editor.keep;
+  const said = [kept ? word("restored", { name: editor.keep.shownName() }) : "", stores ? "" : word("notKept")].filter((text) => text);
+  if (said.length) editor.happened({ kind: "said", text: said.join(" "), lasts: !stores });
   // For tests, which look into it.
   Object.assign(/** @type {any} */ (window).Tamligub, { editor });
 }

@@ -104,10 +104,13 @@ function rangeOf({ least, most, without }) {
 }
 
 /**
- * The beginning of a long word.
+ * A word as it is told: of a long one the beginning, and what can't be seen by its number.
  * @param {string} text
  */
-const shortened = (text) => (text.length > LONGEST ? `${text.slice(0, LONGEST)}…` : text);
+function shortened(text) {
+  const shown = text.length > LONGEST ? `${text.slice(0, LONGEST)}…` : text;
+  return [...shown].map((sign) => (sign === " " ? sign : toldSign(sign))).join("");
+}
 
 /**
  * What is wrong with a number, or nothing.
@@ -189,7 +192,8 @@ export function wrongIn(line, kind) {
   const values = inGrammar(line).split(" ").slice(1);
   if (wanted === TEXT) return values.length ? ofText(line) : word("noText");
   if (values.length !== (typeof wanted === "string" ? 1 : wanted.length)) return ofCount(name, wanted, values.length);
-  return typeof wanted === "string" ? ofDigits(values[0], [...line.trimEnd()].length - [...values[0]].length) : ofNumbers(wanted, values);
+  if (typeof wanted !== "string") return ofNumbers(wanted, values);
+  return ofDigits(values[0], [...line.replace(/[ \t]+$/, "")].length - [...values[0]].length);
 }
 
 /**

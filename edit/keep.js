@@ -5,6 +5,7 @@ import { textOf } from "./ask.js";
 import { AskFault } from "./faults.js";
 import { isDrawing } from "./grammar.js";
 import { Store, isBegun, toLetters } from "./store.js";
+import { asLines } from "./sheet.js";
 import { part } from "./controls.js";
 
 /** @typedef {import("./types.js").Tell} Tell */
@@ -125,12 +126,13 @@ export class Keep {
   constructor(needs, tell) {
     this.needs = needs;
     this.tell = tell;
-    this.files = new Store(() => localStorage, navigator.locks);
+    this.files = new Store(() => localStorage, navigator.locks, () => sessionStorage);
     this.name = "";
     // The script that was saved last, and the stored page that stood under it; null where that isn't known.
     this.saved = "";
     /** @type {Uint8Array | null} */
     this.savedPage = null;
+    // Whether the storage kept what was put into it last.
     this.stores = true;
     this.join();
   }
@@ -158,16 +160,16 @@ export class Keep {
   }
 
   /**
-   * Keeps the script in the storage, and the page with its cuts where it is another.
+   * Keeps the script in the storage, and the page with its cuts where it is another. Once nothing more is kept that is said.
    * @param {boolean} pageToo
    */
   store(pageToo) {
     const { sheet, cuts, underWay } = this.needs;
     const { name, saved } = this;
     const kept = { name, page: sheet.page, cuts: cuts.stored(), script: sheet.script(), saved, isOther: this.isOther(), ...underWay() };
-    if (this.files.put(kept, pageToo)) return;
-    if (this.stores) this.say(word("notKept"));
-    this.stores = false;
+    const stored = this.stores;
+    this.stores = this.files.put(kept, pageToo);
+    if (stored && !this.stores) this.tell({ kind: "said", text: word("notKept"), lasts: true });
   }
 
   // What an editor that was open before left unsaved, or null.
@@ -183,7 +185,7 @@ export class Keep {
     const { name, page, saved, isOther } = kept;
     this.tell({ kind: "taken", kept });
     this.name = name;
-    this.saved = saved;
+    this.saved = asLines(saved);
     this.savedPage = isOther ? null : page;
     this.store(true);
     this.tell({ kind: "named" });

@@ -154,6 +154,8 @@ export function isNoteOn(comment, line) {
   return isOfLetters || (FIGURES.test(comment) && line.startsWith("raw "));
 }
 
+// A sign outside it may be composed to one within, which `text` doesn't take as it was typed.
+const ASCII = /^[ -~]*$/;
 /**
  * The line that writes a typed text: `raw` after the lock of G0 that `text` makes, where `text` can't say it.
  * @param {string} text
@@ -162,7 +164,7 @@ export function isNoteOn(comment, line) {
 function written(text) {
   const parts = signsIn(text);
   const signs = knownSigns(text);
-  return signs.length < parts.length || signs.every(isPlain) ? `text ${text}` : raw(LOCK, ...bytesOfSigns(signs));
+  return signs.length < parts.length || ASCII.test(text) ? `text ${text}` : raw(LOCK, ...bytesOfSigns(signs));
 }
 
 /**
@@ -232,8 +234,9 @@ export const PEN = {
   },
   switches: { lined: "c1 26", boxed: "c1 11", conceal: "c1 24", invert: "c1 29", transparent: "c1 30" },
 };
-// The lines under which signs are high.
+// The lines under which signs are high, and wide.
 export const TALLER = ["c1 13", "c1 15"];
+export const WIDER = ["c1 14", "c1 15"];
 /**
  * The markers of the serial set, beside the colours.
  * @type {Record<string, string>}

@@ -54,8 +54,8 @@ export class Live {
   constructor(instance, page, known) {
     this.known = known;
     /**
-     * The paints, once they were asked for since the last line.
-     * @type {string[] | null}
+     * The colours, once they were asked for since the last line.
+     * @type {{ paints: string[], dclut: number[] } | null}
      */
     this.colours = null;
     this.decoder = opened(instance);
@@ -124,13 +124,28 @@ export class Live {
     return { at: cellOf(state), set, table, rows, wrap, first, last, implicit, revision, protect };
   }
 
+  inForce() {
+    if (!this.colours) {
+      const { entries, dclut } = this.decoder.colours();
+      this.colours = { paints: entries.map(colourText), dclut };
+    }
+    return this.colours;
+  }
+
   /**
    * The paints of the 32 entries.
    * @returns {string[]}
    */
   paints() {
-    this.colours = this.colours || this.decoder.colours().entries.map(colourText);
-    return this.colours;
+    return this.inForce().paints;
+  }
+
+  /**
+   * The entries of the four inks of patterns of two planes.
+   * @returns {number[]}
+   */
+  dclut() {
+    return this.inForce().dclut;
   }
 
   close() {

@@ -2,7 +2,7 @@
 // is a marker at the caret.
 import { speak, word } from "./words.js";
 import { BACK, COLOURS, FORE, MARKERS, PEN, bytesOfLine, colourLines, tableLines } from "./lines.js";
-import { button, choice, group, inLine, make, part, rove, styleOf, swatch } from "./controls.js";
+import { button, choice, group, inLine, make, part, reachShown, rove, styleOf, swatch } from "./controls.js";
 
 /** @typedef {import("./types.js").Tell} Tell */
 
@@ -34,6 +34,9 @@ export class Pen {
     this.flash = "steady";
     /** @type {Set<string>} */
     this.on = new Set();
+    // The buttons of each group, of which Tab reaches one.
+    /** @type {HTMLElement[][]} */
+    this.groups = [];
     this.flashes = choice("flash", Object.keys(PEN.flash).map((key) => [key, key]), (flash) => this.choose({ flash }));
     this.build();
   }
@@ -112,7 +115,8 @@ export class Pen {
       make("div", { id: "pen-parallel" }, inLine(size, flash), inLine(more)),
       make("div", { id: "pen-serial" }, group("more", ...markers)),
     );
-    for (const list of this.all(".group")) rove(Array.from(list.querySelectorAll("button")));
+    this.groups = this.all(".group").map((list) => Array.from(list.querySelectorAll("button")));
+    this.groups.forEach((list) => rove(list));
   }
 
   /**
@@ -172,6 +176,7 @@ export class Pen {
       one.setAttribute("aria-pressed", String(this.set === "parallel" && this.entryOf(one.dataset.kind) === entry));
     }
     for (const one of this.all("[data-none]")) one.hidden = this.set === "serial";
+    this.groups.forEach(reachShown);
     part("pen-plain").hidden = part("pen-parallel").hidden = this.set === "serial";
     part("pen-serial").hidden = this.set !== "serial";
     this.speak();

@@ -19,7 +19,7 @@ export { Screen, TALL, paintStill } from "../view/screen.js";
  *     row: number, column: number, c1: number, table: number, first: number, last: number, implicit: number, revision: number, protect: number,
  *     rows: number, wrap: number, g: number[], left: number, single: number, accent: number,
  *   },
- *   colours: () => { entries: Notice["fore"][] },
+ *   colours: () => { entries: Notice["fore"][], dclut: number[] },
  * }} OneDecoder
  * @typedef {import("./types.js").Notice} Notice
  * @typedef {import("./types.js").Run} Run

@@ -35,6 +35,21 @@ export const isEdit = (line) => /^[^#]/.test(inGrammar(line));
  */
 const textOf = (lines) => lines.map((line) => `${line}\n`).join("");
 /**
+ * The lines of a script, of which the last needs no line feed.
+ * @param {string} script
+ * @returns {string[]}
+ */
+function linesOf(script) {
+  const lines = script.split("\n");
+  return lines[lines.length - 1] === "" ? lines.slice(0, -1) : lines;
+}
+/**
+ * A script with a line feed behind each line, as the sheet has it.
+ * @param {string} script
+ * @returns {string}
+ */
+export const asLines = (script) => textOf(linesOf(script));
+/**
  * Whether a text has more bytes than a script may have.
  * @param {string} text
  */
@@ -68,11 +83,12 @@ export class Sheet {
   }
 
   /**
-   * Takes a stored page and a script.
+   * Takes a stored page and a script. Where one of them is too long what was there before stays.
    * @param {Uint8Array} page
    * @param {string} script
    */
   open(page, script) {
+    if (isTooLong(asLines(script))) throw new AskFault("edit", STATUS.TOO_LONG);
     const [check, known] = [this.asker.check(page), new Looks()];
     const live = this.asker.live(page, known);
     this.live.close();
@@ -87,8 +103,7 @@ export class Sheet {
    * @param {string} script
    */
   setScript(script) {
-    const lines = script.split("\n");
-    if (lines[lines.length - 1] === "") lines.pop();
+    const lines = linesOf(script);
     let same = 0;
     while (same < lines.length && lines[same] === this.lines[same]) same++;
     this.change(same, lines.slice(same));

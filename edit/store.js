@@ -4,6 +4,7 @@
 const STORE = /^tamligub\.editor\.(\w+)\.script$/;
 // The language, as the viewer keeps it too.
 const LANGUAGE = "tamligub-language";
+const TAB = "tamligub-editor";
 /** @type {(editor: string) => string} */
 const pageName = (editor) => `tamligub.editor.${editor}.page`;
 /** @type {(editor: string) => string} */
@@ -58,13 +59,16 @@ export const fromLetters = (letters) => Uint8Array.from(atob(letters), (sign) =>
 
 export class Store {
   /**
-   * What gives the storage, which a browser may refuse; and the locks that editors hold as long as they are open, where it has them.
+   * What gives the storage, the locks that editors hold as long as they are open, where the browser has them, and what outlasts a reload of
+   * this tab alone. It may refuse each.
    * @param {() => Storage} storage
-   * @param {Pick<LockManager, "query" | "request"> | undefined} locks
+   * @param {Pick<LockManager, "request"> | undefined} locks
+   * @param {() => Storage} tab
    */
-  constructor(storage, locks) {
+  constructor(storage, locks, tab) {
     this.storage = storage;
     this.locks = locks;
+    this.tab = tab;
     this.id = "one";
     // Whether the storage has the page of the script that is put next.
     this.hasPage = false;
@@ -86,18 +90,26 @@ export class Store {
   }
 
   /**
-   * Keeps a script, and the page where it is another or isn't kept yet. Answers whether both are kept.
+   * Keeps a script, and the page where it is another or isn't kept yet. Answers whether both are kept. A page whose script finds no room goes
+   * again, since the script that the storage has belongs to another.
    * @param {Kept} kept
    * @param {boolean} pageToo
    */
   put({ name, page, cuts, ...rest }, pageToo) {
+    const isOther = pageToo || !this.hasPage;
     try {
-      if (pageToo || !this.hasPage) this.putPage({ name, page, cuts });
+      if (isOther) this.putPage({ name, page, cuts });
       this.storage().setItem(scriptName(this.id), JSON.stringify({ ...rest, time: Date.now() }));
       return true;
     } catch (fault) {
+      if (isOther && this.hasPage) this.dropPage();
       return false;
     }
+  }
+
+  dropPage() {
+    this.storage().removeItem(pageName(this.id));
+    this.hasPage = false;
   }
 
   /**
@@ -130,22 +142,78 @@ export class Store {
   }
 
   /**
-   * The page that an editor left unsaved last which isn't open any more, or null; this editor goes on in its place. What such editors
-   * left that was saved goes.
+   * Does something under the lock of an editor, which is held until that ends; not where another has it. Answers whether it is done. Where
+   * there are no locks it is.
+   * @param {string} id
+   * @param {() => void | Promise<void>} act
+   * @returns {Promise<boolean>}
+   */
+  locked(id, act) {
+    const { locks } = this;
+    return new Promise((done) => {
+      /** @type {(lock: unknown) => void | Promise<void>} */
+      const begin = (lock) => {
+        done(Boolean(lock));
+        return lock ? act() : undefined;
+      };
+      if (locks) locks.request(scriptName(id), { ifAvailable: true }, begin).catch(() => begin(true));
+      else begin(true);
+    });
+  }
+
+  /**
+   * Holds the lock of an editor as long as this one is open. Answers whether it has it.
+   * @param {string} id
+   */
+  holds(id) {
+    return this.locked(id, () => new Promise(() => {}));
+  }
+
+  /**
+   * The editor that was in this tab before a reload, or null; and that this one is now.
+   * @param {string} [id]
+   */
+  inTab(id) {
+    try {
+      if (id !== undefined) this.tab().setItem(TAB, id);
+      return this.tab().getItem(TAB);
+    } catch (fault) {
+      return null;
+    }
+  }
+
+  /**
+   * The page that was left unsaved in this tab, or last in any that isn't open any more, or null; this editor goes on in its place. What
+   * such editors left that was saved goes.
    * @returns {Promise<Kept | null>}
    */
   async taken() {
-    const held = this.locks ? (await this.locks.query()).held || [] : [];
-    const open = held.map(({ name }) => name);
-    const left = this.ids().filter((id) => !open.includes(scriptName(id)));
-    const unsaved = left.flatMap((id) => this.of(id) || []).sort((one, other) => other.time - one.time);
-    for (const id of left.filter((one) => !unsaved.some((other) => other.id === one))) {
-      this.storage().removeItem(pageName(id));
-      this.storage().removeItem(scriptName(id));
+    const ids = this.ids();
+    const before = this.inTab();
+    const rank = (/** @type {{ id: string, time: number }} */ { id, time }) => (id === before ? Infinity : time);
+    const unsaved = ids.flatMap((id) => this.of(id) || []).sort((one, other) => rank(other) - rank(one));
+    await Promise.all(ids.map((id) => unsaved.some((one) => one.id === id) || this.locked(id, () => this.drop(id))));
+    for (const { id } of unsaved) {
+      // Under the lock it is read again: another editor may have ended meanwhile.
+      const kept = (await this.holds(id)) ? this.of(id) : null;
+      if (!kept) continue;
+      this.id = id;
+      this.inTab(id);
+      return kept;
     }
-    this.id = unsaved.length ? unsaved[0].id : Math.random().toString(36).slice(2);
-    // As long as this editor is open its lock is held.
-    if (this.locks) this.locks.request(scriptName(this.id), () => new Promise(() => {}));
-    return unsaved[0] || null;
+    this.id = Math.random().toString(36).slice(2);
+    this.inTab(this.id);
+    await this.holds(this.id);
+    return null;
+  }
+
+  /**
+   * Takes what an editor left out of the storage, where that was saved.
+   * @param {string} id
+   */
+  drop(id) {
+    if (this.of(id)) return;
+    this.storage().removeItem(pageName(id));
+    this.storage().removeItem(scriptName(id));
   }
 }

@@ -1,7 +1,7 @@
 // Writing at the caret. The caret is the place of the next line `at`; after writing it is where the program says that it would go on.
 import { COLUMNS, ROWS } from "./shared.js";
 import { word } from "./words.js";
-import { TALLER, knownSigns, linesOfSigns, plainer, signOf, signsIn, toldSign } from "./lines.js";
+import { TALLER, WIDER, knownSigns, linesOfSigns, plainer, signOf, signsIn, toldSign } from "./lines.js";
 import { KEPT, isEdit } from "./sheet.js";
 
 /** @typedef {import("./types.js").Look} Look */
@@ -38,16 +38,19 @@ const isLetter = ({ set }) => set === "P" || set === "S";
 const shows = (look, { set, code }) => (look.kind === "sign" ? look.code === code : look.kind === "pattern" ? set === "D" : code === BLANK.code);
 
 /**
- * The signs of a line that begins in a column, with spaces in the place of a tab.
+ * The signs of a line that begins in a column, each so many columns wide, with spaces in the place of a tab; where none of this width ends at
+ * the column of the tab they lead past it. Past the last column it goes on in the first one.
  * @param {string} line
  * @param {number} column
+ * @param {number} width
  * @returns {string[]}
  */
-export function spread(line, column) {
+export function spread(line, column, width) {
   let at = column - 1;
   return signsIn(line).flatMap((sign) => {
-    const signs = sign === "\t" ? new Array(TAB - (at % TAB)).fill(" ") : [sign];
-    at += signs.filter((one) => signOf(one)).length;
+    const signs = sign === "\t" ? new Array(Math.ceil((TAB - (at % TAB)) / width)).fill(" ") : [sign];
+    at += width * signs.filter((one) => signOf(one)).length;
+    if (at >= COLUMNS) at = 0;
     return signs;
   });
 }
@@ -169,15 +172,32 @@ export class Typing {
   }
 
   /**
-   * Does something that goes on at the caret. Past the last row that is in one above, which is said.
+   * Does something that goes on at the caret. Past the last row that is in the first one, which is said: where the caret is in a row above
+   * then, or what is done leads there in any case.
    * @param {() => void} act
+   * @param {boolean} [isPast]
    */
-  onward(act) {
+  onward(act, isPast = false) {
     const { row } = this;
     this.remarked(() => {
       act();
-      if (this.row < row && !this.composing) this.remark(word("pastEnd"));
+      if ((isPast || this.row < row) && !this.composing) this.remark(word("pastEnd"));
     });
+  }
+
+  // How many columns a sign takes by what is chosen. Under the serial set that a marker says, and here it is one.
+  width() {
+    return this.needs.pen.lines().lines.some((line) => WIDER.includes(line)) ? 2 : 1;
+  }
+
+  /**
+   * Whether so many signs from the caret on lead past the last row of the format, and no area scrolls instead.
+   * @param {number} count
+   */
+  isPast(count) {
+    const { rows, wrap, first, last, implicit } = this.needs.sheet.live.state();
+    const scrolls = implicit === 1 && first > 0 && last <= rows && this.row <= last;
+    return wrap === 1 && !scrolls && this.cell() + count * this.width() >= rows * COLUMNS;
   }
 
   /**
@@ -209,7 +229,7 @@ export class Typing {
    * @param {string} line
    */
   typeLine(line) {
-    const signs = spread(line, this.column);
+    const signs = spread(line, this.column, this.width());
     const known = signs.flatMap((sign) => signOf(sign) || []);
     if (known.length) this.write(known);
     return signs.filter((sign) => !signOf(sign));
@@ -225,7 +245,7 @@ export class Typing {
       if (!this.stretch || this.stretch.signs.some((sign) => isLetter(sign) !== isLetter(signs[0]))) return this.begin(signs);
       this.stretch.signs.push(...signs);
       return this.restate();
-    }));
+    }), this.isPast(signs.length));
   }
 
   /**

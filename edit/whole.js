@@ -150,7 +150,8 @@ export class Whole {
 // The 32 entries, each a line `colour`.
 export class ColourPanel {
   /**
-   * @param {Pick<Needs, "paints" | "entryName">} needs
+   * The paints and the names of the entries, and the entries of the inks of four-colour signs.
+   * @param {Pick<Needs, "paints" | "entryName"> & { dclut: () => number[] }} needs
    * @param {Tell} tell
    */
   constructor(needs, tell) {
@@ -158,6 +159,7 @@ export class ColourPanel {
     this.tell = tell;
     this.entry = 1;
     this.levels = { r: 15, g: 0, b: 0 };
+    this.dclutInForce = "";
     this.swatches = ENTRIES.map((number) => swatch("entry", { number }, () => this.take(number)));
     this.picker = make("input", { type: "color", name: "colourPick", oninput: () => this.pick(this.picker.value) });
     this.fields = LEVELS.map(([level, key]) => {
@@ -165,6 +167,8 @@ export class ColourPanel {
       field.addEventListener("input", () => this.level(level, Number(field.value)));
       return field;
     });
+    const entries = () => ENTRIES.map((entry) => make("option", { value: entry }, String(entry)));
+    this.dcluts = [0, 1, 2, 3].map((ink) => make("select", { name: "inkEntry", values: { ink } }, ...entries()));
     this.build();
   }
 
@@ -173,15 +177,12 @@ export class ColourPanel {
     const levels = this.fields.map((field, at) => {
       return make("label", { class: "level" }, make("span", { word: LEVELS[at][1], "aria-hidden": true }), field);
     });
-    const entries = () => ENTRIES.map((entry) => make("option", { value: entry }, String(entry)));
-    const dcluts = [0, 1, 2, 3].map((ink) => make("select", { name: "inkEntry", values: { ink } }, ...entries()));
-    dcluts.forEach((select, ink) => { select.value = String(ink); });
-    const setDclut = () => this.act(dclutLine(dcluts.map((select) => Number(select.value))));
+    const setDclut = () => this.act(dclutLine(this.dcluts.map((select) => Number(select.value))));
     part("colours").append(
       inLine(make("div", { id: "entries", class: "group", role: "group", name: "colourEntry" }, ...this.swatches)),
       inLine(make("span", { id: "colour-sample", "aria-hidden": true }), this.picker, ...levels),
       inLine(button("colourSet", () => this.set(), { class: "main" }), make("p", { class: "hint", id: "colour-words" })),
-      inLine(group("dclut", ...dcluts, button("dclutSet", setDclut)), button("colourReset", () => this.act(coloursLine))),
+      inLine(group("dclut", ...this.dcluts, button("dclutSet", setDclut)), button("colourReset", () => this.act(coloursLine))),
     );
   }
 
@@ -221,7 +222,15 @@ export class ColourPanel {
     this.act(`colour ${this.entry} ${r} ${g} ${b}`);
   }
 
+  // Shows the entries of the four inks that are there, once they are others.
+  showDclut() {
+    const dclut = this.needs.dclut();
+    if (String(dclut) !== this.dclutInForce) this.dcluts.forEach((select, ink) => { select.value = String(dclut[ink]); });
+    this.dclutInForce = String(dclut);
+  }
+
   show() {
+    this.showDclut();
     const paints = this.needs.paints();
     this.swatches.forEach((one, entry) => {
       one.style.background = styleOf(paints[entry]);

@@ -433,6 +433,29 @@ def serial_attributes_are_markers(hand):
     hand.is_true()
 
 
+def keys_reach_the_colours_of_both_sets(hand):
+    """The serial one has no button for no colour, and Tab leads to the first swatch of each group."""
+    hand.fresh()
+    still(hand)
+    hand.cell(10, 1)
+    hand.go_to('[data-set="parallel"]')
+    hand.key("ArrowRight")
+    hand.key(" ")
+    hand.go_to('.swatch[data-kind="fore"]')
+    hand.key("ArrowRight")
+    hand.key(" ")
+    hand.go_to('.swatch[data-kind="back"]')
+    hand.key(" ")
+    assert hand.lines() == ["serial", "at 10 1", "c1 1", "c1 16"], hand.script()
+    access.the_focus_goes_through_all(hand.tab)
+    hand.go_to('[data-set="serial"]')
+    hand.key("ArrowLeft")
+    hand.key(" ")
+    hand.go_to('.swatch[data-kind="fore"]')
+    hand.key("ArrowLeft", 2)
+    assert hand.tab.value("document.activeElement.dataset.none") == "fore", hand.tab.value("document.activeElement.outerHTML")
+
+
 FORMATS = """["format", "wrap"].map((name) => document.querySelector(`#sheet select[data-name="${name}Part"]`).value)"""
 
 
@@ -568,6 +591,10 @@ def the_format_bounds_caret_and_drawing(hand):
     assert hand.caret() == (20, 3) and hand.tab.value(SHADED) is not None, hand.caret()
 
 
+# The entries of the four inks.
+INKS = "[...document.querySelectorAll('#colours select')].map((one) => one.value)"
+
+
 def patterns_have_inks(hand):
     """A sign of each form and depth, painted with its inks, defined and written; taken again it has the same pixels."""
     hand.fresh()
@@ -598,6 +625,15 @@ def patterns_have_inks(hand):
     hand.click('#colours [data-word="dclutSet"]')
     assert hand.lines()[-1] == "raw 1F2620221F263030494A4B4C", hand.lines()[-1]
     hand.is_true()
+    # Those in force are shown, once they are others; what is chosen and isn't set stays.
+    for script, inks in (("raw 1F2620221F26303045464748\n", ["5", "6", "7", "8"]), ("# none\n", ["0", "1", "2", "3"])):
+        hand.write_script(script)
+        hand.settle()
+        assert hand.tab.value(INKS) == inks, hand.tab.value(INKS)
+    hand.choose("#colours select", "31", 3)
+    hand.write_script("at 3 3\n")
+    hand.settle()
+    assert hand.tab.value(INKS) == ["0", "1", "2", "31"], hand.tab.value(INKS)
 
 
 def a_sign_that_is_written_is_defined_before(hand):
@@ -766,6 +802,28 @@ def while_drawing_nothing_is_written(hand):
     hand.tab_of("pen")
     hand.type("d")
     assert hand.lines()[-1] == "text d" and hand.is_true(), hand.script()
+
+
+def a_drawing_that_changes_nothing_is_told_and_stays(hand):
+    """Where all that it reaches is protected: by its button and where the page is saved. One that reaches another cell is kept."""
+    hand.fresh()
+    still(hand)
+    hand.write_script("protect\nat 3 3\ntext fest\nunprotect\n")
+    script, data = hand.script(), hand.is_true()
+    hand.tab_of("draw")
+    hand.fill("#drawing", "box 4 6 11 8")
+    for act in (lambda: None, lambda: hand.click("#draw button.main")):
+        act()
+        assert hand.text("draw-fault").startswith("Die Zeichnung ändert keine Zelle"), hand.text("draw-fault")
+        assert hand.tab.value(DRAWN) == "box 4 6 11 8" and hand.script() == script, hand.script()
+    assert hand.kept("#keep-page")[1] == data and "aber ohne" in hand.text("note"), hand.text("note")
+    assert hand.tab.value(DRAWN) == "box 4 6 11 8" and hand.text("name").endswith("●"), hand.text("name")
+    hand.fill("#drawing", "box 4 6 12 8")
+    assert hand.text("draw-fault") == "", hand.text("draw-fault")
+    hand.click("#draw button.main")
+    assert hand.tab.value(DRAWN) == "" and hand.lines()[-1].startswith("raw 1F2F44"), hand.script()
+    assert hand.looks()[2 * 40 + 6].startswith("M"), hand.looks()[2 * 40 + 6]
+    hand.is_true()
 
 
 def another_page_has_no_drawing(hand):
@@ -977,6 +1035,22 @@ def a_page_is_cut_and_made_lines(hand):
     hand.is_true(stored)
 
 
+def lines_that_find_no_room_leave_the_page(hand):
+    """Where items would become more lines than a script may have that is told, and the screen shows the page on."""
+    stored = read(page("title"))
+    hand.fresh(page("title"), hand.written("own.txt", (b"#" * 1023 + b"\n") * 1024))
+    still(hand)
+    lines, _ = items_of(hand, page("title"))
+    hand.tab.value(f"Tamligub.part('items-part').open = true, Tamligub.editor.listing.go({len(lines) // 2})")
+    hand.click("#lines-here")
+    assert "zu lang" in hand.text("fault"), hand.text("fault")
+    assert hand.looks() == hand.looks_of(page("title")), "another page is shown"
+    hand.fill("#script", "at 3 3\ntext X\n")
+    hand.tab.value("Tamligub.editor.script.settle()")
+    assert hand.lines() == ["at 3 3", "text X"] and hand.text("fault") == "", hand.text("fault")
+    hand.is_true(stored)
+
+
 def a_crash_loses_nothing(hand):
     hand.fresh(page("boat"))
     still(hand)
@@ -1001,6 +1075,48 @@ def a_crash_loses_nothing(hand):
     assert hand.lines()[-1] == "text im ersten"
     hand.crash()
     assert hand.lines()[-1] == "text im zweiten", hand.script()
+
+
+# A storage without room while `full` is true, and locks that are refused, as a browser refuses them where a document has no origin.
+REFUSED = """(() => {
+  const { setItem } = Storage.prototype;
+  window.full = true;
+  Storage.prototype.setItem = function put(...given) {
+    if (window.full) throw new DOMException("full", "QuotaExceededError");
+    setItem.apply(this, given);
+  };
+  if (!window.LockManager) return;
+  const refuses = () => Promise.reject(new DOMException("refused", "SecurityError"));
+  Object.assign(LockManager.prototype, { query: refuses, request: refuses });
+})()"""
+
+
+def what_the_browser_does_not_keep_is_told(hand):
+    """At the start and for some keys, and anew where there is no room once more."""
+    hand.fresh()
+    hand.leave()
+    with hand.tab.beforehand(REFUSED):
+        hand.tab.open(hand.path, "editor")
+    assert "nicht aufheben" in hand.text("note"), hand.text("note")
+    hand.type("ab")
+    assert "nicht aufheben" in hand.text("note"), "the warning is gone with the next key"
+    hand.cell(3, 3)
+    hand.type("c")
+    hand.settle()
+    assert hand.text("note") == "", hand.text("note")
+    for full, said in (("false", ""), ("true", "Der Browser kann diese Seite nicht aufheben; bitte öfter sichern.")):
+        hand.tab.value(f"window.full = {full}")
+        hand.type("d")
+        hand.settle()
+        assert hand.text("note") == said, hand.text("note")
+
+
+def a_script_that_ends_without_a_line_feed_is_saved(hand):
+    hand.fresh(page("boat"), hand.written("own.txt", b"at 3 3\ntext X"))
+    assert hand.lines() == ["at 3 3", "text X"] and hand.text("name") == "boat.btx", hand.text("name")
+    assert hand.tab.value(IS_LEFT), "what was opened is asked about"
+    hand.crash()
+    assert hand.script() == "" and hand.text("name") == "neue Seite", hand.text("name")
 
 
 # Whether the page may be left without a question.
@@ -1061,8 +1177,8 @@ def a_drawing_is_asked_about_and_outlasts_a_crash(hand):
     assert hand.kept("#keep-page")[1] == data and "aber ohne" in hand.text("note"), hand.text("note")
     hand.click("#draw button.main")
     assert hand.text("name").endswith("●") and hand.tab.value("Tamligub.part('drawing').value").startswith("plot 1 1"), hand.text("name")
-    for selector in ("#keep-script", "#keep-picture", "#keep-html"):
-        hand.fill("#drawing", f"plot 9 {selector.count('p')}\n")
+    for number, selector in enumerate(("#keep-script", "#keep-picture", "#keep-html")):
+        hand.fill("#drawing", f"plot 9 {number}\n")
         hand.kept(selector)
         assert hand.lines()[-1].startswith("raw 1F2F44") and hand.tab.value("Tamligub.part('drawing').value") == "", f"{selector} keeps no drawing"
     # While a line of the script is wrong nothing drawn becomes lines: script and picture are kept without it, which is said.
@@ -1114,6 +1230,21 @@ def refused_items_are_told(hand):
     assert "zu lang" in hand.text("fault"), hand.text("fault")
     hand.fill("#script", "at 1 1\n")
     assert hand.text("fault") == "" and hand.lines() == ["at 1 1"]
+
+
+def a_script_that_is_too_long_is_not_opened(hand):
+    """Page and script that are open stay, and are kept."""
+    stored, script = read(page("boat")), "at 3 3\ntext X\n"
+    hand.fresh(page("boat"), hand.written("own.txt", script.encode()))
+    still(hand)
+    longer = hand.written("longer.script", b"#" * (1 << 20))
+    for files in ([longer], [longer, page("title")]):
+        hand.tab.value("Tamligub.editor.tell('')")
+        hand.open(*files)
+        assert "zu lang" in hand.text("fault"), hand.text("fault")
+        assert hand.script() == hand.shown_script() == script and hand.text("name") == "boat.btx", (hand.text("name"), hand.script())
+        whole = hand.is_true(stored)
+    assert hand.kept("#keep-page") == ("boat.btx", whole), "another page is kept"
 
 
 def a_message_ends_with_its_page(hand):
@@ -1565,13 +1696,15 @@ CASES = (
     a_page_is_drawn_undone_made_again_and_kept, typing_is_lines, a_page_keeps_what_is_not_touched, signs_of_all_sets_are_typed,
     past_the_last_row_it_goes_on_in_the_first, an_undo_that_reaches_no_further_says_why,
     scripts_are_typed, signs_are_composed, what_is_protected_stays_and_that_is_told,
-    each_attribute_is_a_line, serial_attributes_are_markers,
+    each_attribute_is_a_line, serial_attributes_are_markers, keys_reach_the_colours_of_both_sets,
     rows_screen_area_format_and_colours_are_lines, the_format_bounds_caret_and_drawing,
     patterns_have_inks, a_sign_that_is_written_is_defined_before, a_painted_sign_is_kept_where_another_is_taken,
     drawings_are_seen_before_they_are_kept, without_plot_only_drawing_is_absent, a_bad_line_is_told, the_grammar_is_that_of_btx,
     a_drawing_is_asked_about_and_outlasts_a_crash, a_painted_sign_is_asked_about_and_outlasts_a_crash,
     a_script_is_typed_key_by_key, what_was_written_in_the_script_is_undone_there, an_undo_leads_to_where_the_action_began,
     a_drawing_is_undone_figure_by_figure, while_drawing_nothing_is_written, another_page_has_no_drawing, a_message_ends_with_its_page,
+    a_drawing_that_changes_nothing_is_told_and_stays, a_script_that_is_too_long_is_not_opened, lines_that_find_no_room_leave_the_page,
+    what_the_browser_does_not_keep_is_told, a_script_that_ends_without_a_line_feed_is_saved,
     lines_are_stepped_and_pointed_at, the_items_of_a_page_are_stepped_and_marked, a_page_is_cut_and_made_lines,
     a_crash_loses_nothing, an_unsaved_page_is_asked_about, refused_items_are_told, what_is_kept,
     the_picture_reveals_what_is_revealed, what_is_not_opened_is_told, a_drawing_is_opened,

@@ -7,7 +7,7 @@ import { word } from "../words.js";
 
 const GOOD = [
   "at 1 40", " at\t24  1 ", "text ö", "text  ", "c1 31", "row 0", "screen 11", "table 3", "colour 31 15 0 15", "repeat 63", "area 3 3", "noarea 1 24",
-  "revision 2", "raw 1f2F44", "undo", "scrollup",
+  "revision 2", "raw 1f2F44", "undo", "scrollup", "text \u212a\u037e\u1fef",
 ];
 // Bad lines, each with the program's reason and what is wrong with it.
 const BAD = [
@@ -30,6 +30,7 @@ const BAD = [
   ["text a\u2026", "BadText", ["badSignPlainer", { sign: "\u2026", place: 7, by: "..." }]],
   ["text \u200bx", "BadText", ["badSign", { sign: "U+200B", place: 6 }]],
   [" raw 1G", "BadHex", ["noDigit", { sign: "G", place: 7 }]],
+  ["raw 1F2\u00a0 ", "BadHex", ["noDigit", { sign: "U+00A0", place: 8 }]],
   ["text a\tb", "BadText", ["badSign", { sign: word("tabSign"), place: 7 }]],
   ["raw 1", "BadHex", ["oddDigits", { count: 1 }]],
 ];

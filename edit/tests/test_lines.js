@@ -39,6 +39,8 @@ test("typed lines become those of the program's grammar", () => {
     "  at  3\t5 ": "at 3 5", "text  a ": "text  a ", "\ttext für": "raw 0F6619487572", " # Größe ": "# Größe ", "": "", "undo\t": "undo", "text €": "text €",
   };
   for (const [typed, line] of Object.entries(wanted)) assert.strictEqual(inGrammar(typed), line, typed);
+  // The signs of Kelvin and of a Greek question are composed to K and a semicolon.
+  assert.strictEqual(inGrammar("text \u212a\u037e"), "raw 0F4B3B");
   assert.deepStrictEqual(unknownIn("text ö €x"), { sign: "€", place: 8 });
   assert.strictEqual(unknownIn("text Hallo"), null);
 });

@@ -1,8 +1,9 @@
 // The state of the editor, over the program: what stands in the script is reckoned, and what it shows is what the whole script shows.
 import assert from "node:assert";
+import { test } from "node:test";
 import { asked, asker, bytes, rowOf, sheetOf } from "./program.js";
 import { lastGrid, readTrace } from "../shared.js";
-import { KEPT } from "../sheet.js";
+import { KEPT, asLines } from "../sheet.js";
 
 const PAGE = bytes(0x1f, 0x45, 0x41, ...Array.from("Seite", (sign) => sign.charCodeAt(0)));
 const START = "raw 1F2F44";
@@ -228,4 +229,28 @@ asked("a script that is too long is refused, and the one before stays", () => {
   assert.throws(() => sheet.setScript("#".repeat(2 ** 20)), { status: 7 });
   assert.throws(() => sheet.setScript("ä".repeat(2 ** 19)), { status: 7 });
   assert.deepStrictEqual([sheet.script(), rowOf(sheet, 1)], ["text A\n", "A"]);
+});
+
+asked("a page whose script is too long isn't opened, with the line feed that its last line has in the sheet", () => {
+  const sheet = sheetOf(PAGE, "text A\n");
+  for (const script of ["#".repeat(2 ** 20), `${"#".repeat(2 ** 20)}\n`, "ä".repeat(2 ** 19)]) {
+    assert.throws(() => sheet.open(bytes(0x42), script), { status: 7 });
+    assert.deepStrictEqual([sheet.page, sheet.script(), sheet.lines], [PAGE, "text A\n", ["text A"]]);
+    isTrue(sheet);
+  }
+  sheet.open(bytes(0x42), "#".repeat(2 ** 20 - 1));
+  assert.deepStrictEqual([sheet.page, sheet.script().length], [bytes(0x42), 2 ** 20]);
+});
+
+test("a script has a line feed behind its last line too", () => {
+  assert.deepStrictEqual(["", "\n", "text A", "text A\n", "text A\n\n"].map(asLines), ["", "\n", "text A\n", "text A\n", "text A\n\n"]);
+});
+
+asked("the entries of the inks of four-colour signs are those of the page under way", () => {
+  const sheet = sheetOf();
+  assert.deepStrictEqual(sheet.live.dclut(), [0, 1, 2, 3]);
+  sheet.add(["raw 1F2620221F263030494A4B4C"]);
+  assert.deepStrictEqual(sheet.live.dclut(), [9, 10, 11, 12]);
+  sheet.undoRedo("undo");
+  assert.deepStrictEqual(sheet.live.dclut(), [0, 1, 2, 3]);
 });

@@ -186,9 +186,24 @@ test("of signs that are left out is told how many they are, and each once", () =
 });
 
 test("a tab is spaces up to the next of the columns 9, 17 and so on", () => {
-  assert.strictEqual(spread("a\tb\t\tc", 1).join(""), "a       b               c");
-  assert.strictEqual(spread("\ta", 8).join(""), " a");
-  assert.strictEqual(spread("ä€\tb", 5).join(""), "ä€   b");
+  assert.strictEqual(spread("a\tb\t\tc", 1, 1).join(""), "a       b               c");
+  assert.strictEqual(spread("\ta", 8, 1).join(""), " a");
+  assert.strictEqual(spread("ä€\tb", 5, 1).join(""), "ä€   b");
+});
+
+test("of wide signs half as many are a tab, and one more where none ends at its column", () => {
+  assert.strictEqual(spread("a\tb\t\tc", 1, 2).join(""), "a   b       c");
+  // From columns 2 to 10, and from 12 to 18; from 34 to the first column of the next row, which column 41 would be past.
+  assert.strictEqual(spread("\ta\tb", 2, 2).join(""), "    a   b");
+  assert.strictEqual(spread("\ta\tb", 34, 2).join(""), "    a   b");
+});
+
+asked("a tab leads to its column under a wide pen too", () => {
+  for (const [line, column] of [["c1 14", 11], ["c1 15", 11], ["c1 13", 10]]) {
+    const { typing, place } = caretOf([line]);
+    typing.type("a\tb");
+    assert.deepStrictEqual(place(), [1, column]);
+  }
 });
 
 asked("signs of word processors that no set has are replaced, which is said but of spaces", () => {
@@ -227,6 +242,27 @@ asked("past the last row it goes on in the first one, which is said", () => {
   typing.place(24, 40);
   typing.type("xy");
   assert.deepStrictEqual(said, []);
+});
+
+asked("what is pasted over all rows goes on in the first one too, which is said", () => {
+  const pasted = (count, script, pen = []) => {
+    const { typing, sheet, said, place } = caretOf(pen);
+    sheet.setScript(script);
+    typing.place(2, 1);
+    typing.type("x".repeat(count));
+    return [...place(), ...said];
+  };
+  // 23 rows of 40 columns from the second on, and of 20 rows 19.
+  assert.deepStrictEqual(pasted(919, ""), [24, 40]);
+  assert.deepStrictEqual(pasted(921, ""), [1, 2, word("pastEnd")]);
+  assert.deepStrictEqual(pasted(965, ""), [2, 6, word("pastEnd")]);
+  assert.deepStrictEqual(pasted(765, "raw 1F2D4270\n"), [1, 6, word("pastEnd")]);
+  assert.deepStrictEqual(pasted(805, "raw 1F2D4270\n"), [2, 6, word("pastEnd")]);
+  assert.deepStrictEqual(pasted(485, "", ["c1 14"]), [2, 11, word("pastEnd")]);
+  // Neither where an area scrolls, nor without wrap; below an area it does.
+  assert.deepStrictEqual(pasted(965, "area 5 24\nimplicit\n"), [24, 6]);
+  assert.deepStrictEqual(pasted(965, "raw 1F2D4171\n"), [2, 40]);
+  assert.deepStrictEqual(pasted(965, "area 1 1\nimplicit\n").slice(2), [word("pastEnd")]);
 });
 
 asked("of a text with more edits than can be undone that is said", () => {
