@@ -4,6 +4,7 @@ import contextlib
 import io
 import os
 import re
+import shlex
 import shutil
 import signal
 import subprocess
@@ -95,6 +96,25 @@ class Build(stand.Case):
         self.assertNotIn("cept_tool", self.text("seen"))
         self.assertEqual(sorted(os.listdir(self.path("made"))), sorted([*whole.MADE, *BESIDE, "npm"]))
         self.assertEqual(os.readlink(self.path("made", "libtamligub.so")), "libtamligub.so.1")
+
+    def test_a_folder_npm_of_others_stays(self):
+        """One with files of their own, and the one from which the package is made."""
+        self.put("made/npm/mine.txt", "mine")
+        for folder in ("made", "library"):
+            said = self.run_of("library/build", os.path.join(self.tree, folder), status=1)[1]
+            self.assertIn("npm: it is no package that was made here, and stays; the library needs another folder", said)
+            self.assertFalse(os.path.exists(self.path("seen")))
+        self.assertEqual(self.text("clone/made/npm/mine.txt"), "mine")
+        # An empty one may be left by a build that was ended.
+        os.remove(os.path.join(self.tree, "made", "npm", "mine.txt"))
+        npm.check(os.path.join(self.tree, "made"))
+        self.assertTrue(os.path.exists(os.path.join(self.tree, "library", "npm", "package.json")))
+
+    def test_an_end_that_is_ignored_stays_so(self):
+        code = "import signal, sys; sys.path.insert(0, '.'); from building import running; running.heed_ends(); print(*map(signal.getsignal, (1, 15)))"
+        line = f"trap '' HUP; exec {shlex.quote(sys.executable)} -c {shlex.quote(code)}"
+        done = subprocess.run(["sh", "-c", line], cwd=stand.ROOT, capture_output=True, text=True, check=True)
+        self.assertRegex(done.stdout, r"^(1|Handlers\.SIG_IGN) <function interrupted at")
 
     def test_what_an_earlier_run_has_proved_is_told_apart(self):
         said = self.run_of("build", STUB="kept low kept high")[1]

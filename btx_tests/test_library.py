@@ -82,6 +82,11 @@ class Library(stand.Case):
         self.assertEqual(done.returncode, 0, done.stderr)
         self.assertIn(f"{len(stand.all_pages())} pages, ", done.stdout.decode())
 
+    def test_a_name_alone_is_that_of_the_file_that_is_here(self):
+        env = {name: value for name, value in stand.environment(TAMLIGUB_LIBRARY=library.NAME).items() if name != "BTX_PROGRAM"}
+        done = stand.btx("show", stand.page("title"), cwd=os.path.dirname(SHARED), env=env)
+        self.assertEqual((done.returncode, done.stdout), (0, stand.put("show", stand.page("title"))))
+
     def test_an_output_that_fails(self):
         page = self.written("page", b"A" * 2000)
         with open("/dev/full", "wb") as full:

@@ -34,7 +34,8 @@ def lacking():
     if "wasm64" not in running.put([clang, "--print-targets"])[1]:
         return "the clang of the kit has no WebAssembly on this machine, so no module is made"
     if not shutil.which("wasm-opt"):
-        return "there is no wasm-opt on this machine (Debian: apt-get install binaryen), so no tamligub.wasm is made, only tamligub64.wasm"
+        said = "so no tamligub.wasm is made, which browsers and npm take, only tamligub64.wasm"
+        return f"there is no wasm-opt on this machine (Debian: apt-get install binaryen), {said}"
     return None
 
 
@@ -64,7 +65,7 @@ def for_wasm(code):
 
 def make(bitcode, work):
     """Makes the modules of the bitcode as far as the machine can: with a 64-bit memory, importing nothing, and the same with a 32-bit one,
-    for every browser. Answers their paths."""
+    for browsers and `library/tamligub.js`. Answers their paths."""
     folder, paths = kit.found(), [os.path.join(work, name) for name in ("tamligub64.wasm", "tamligub.wasm")]
     clang, archiver = (os.path.join(folder, "toolchain", "bin", name) for name in ("clang", "llvm-ar"))
     if "wasm64" not in running.put([clang, "--print-targets"])[1]:

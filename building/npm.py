@@ -1,8 +1,9 @@
 """The package for npm: the 32-bit module with `library/tamligub.js`, once as an ES module and once for CommonJS, and its types."""
+import json
 import os
 import shutil
 
-from building import ROOT
+from building import ROOT, Stop
 
 SOURCE = os.path.join(ROOT, "library", "npm")
 SCRIPT = os.path.join(ROOT, "library", "tamligub.js")
@@ -39,6 +40,23 @@ def scripts():
     if not ends or rest:
         raise ValueError(f"{SCRIPT} doesn't end with its exports")
     return {name: body + text_of(os.path.join(SOURCE, "load.js")) + last for name, last in LAST.items()}
+
+
+def is_own(folder):
+    """Whether a folder is a package that was made by `make`."""
+    try:
+        with open(os.path.join(folder, "package.json"), encoding="utf-8") as file:
+            return json.load(file)["name"] == "tamligub" and not os.path.samefile(folder, SOURCE)
+    except (OSError, ValueError, TypeError, KeyError):
+        return False
+
+
+def check(out):
+    """Ends where the package's place in a folder has something else in it."""
+    folder = os.path.join(out, FOLDER)
+    is_empty = os.path.isdir(folder) and not os.listdir(folder)
+    if os.path.lexists(folder) and not is_empty and not is_own(folder):
+        raise Stop(f"{folder}: it is no package that was made here, and stays; the library needs another folder")
 
 
 def make(module, out):

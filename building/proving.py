@@ -63,9 +63,13 @@ def prove(folder, course):
     os.makedirs(os.path.dirname(LOG), exist_ok=True)
     words = [os.path.join(kit.found(), "bin", "rt"), "ci"]
     how = {"cwd": folder, "stdout": subprocess.PIPE, "stderr": subprocess.STDOUT, "text": True, "errors": "replace"}
-    with open(LOG, "w", encoding="utf-8") as log, told_later(course), running.started(words, **how) as command:
-        failed = follow(command.stdout, course, log)
-        status = command.wait()
+    try:
+        with open(LOG, "w", encoding="utf-8") as log, told_later(course), running.started(words, **how) as command:
+            failed = follow(command.stdout, course, log)
+            status = command.wait()
+    except OSError as fault:
+        fault.filename = fault.filename or LOG
+        raise
     if status != 0:
         with open(LOG, encoding="utf-8") as log:
             shown = failed or log.readlines()[-SHOWN:]

@@ -14,11 +14,10 @@ def interrupted(*_):
 
 
 def heed_ends():
-    """Has a request to end, or the end of the terminal, end the build as an interrupt does; an interrupt that is ignored stays so."""
-    for number in (signal.SIGTERM, signal.SIGHUP):
-        signal.signal(number, interrupted)
-    if signal.getsignal(signal.SIGINT) is not signal.SIG_IGN:
-        signal.signal(signal.SIGINT, interrupted)
+    """Has a request to end, or the end of the terminal, end the build as an interrupt does; what is ignored, as under nohup, stays so."""
+    for number in (signal.SIGTERM, signal.SIGHUP, signal.SIGINT):
+        if signal.getsignal(number) is not signal.SIG_IGN:
+            signal.signal(number, interrupted)
 
 
 def end(command):

@@ -4,7 +4,7 @@ import shutil
 import sys
 import tempfile
 
-from building import ROOT, archive, crates, module, npm, plan, proving, running, shared, tell
+from building import ROOT, archive, crates, module, npm, plan, proving, running, shared, tell, tree
 
 PROGRAM = "cept_tool"
 PLACE = os.path.join(ROOT, "crates", PROGRAM, "out", PROGRAM)
@@ -15,19 +15,18 @@ MADE = ("libtamligub.a", shared.NAME, "tamligub.h", SIGNS, "tamligub64.wasm", "t
 
 def put(source, path, mode):
     """Puts a file in its place at once, also where another that runs stands there."""
+    def copy(new):
+        shutil.copyfile(source, new)
+        os.chmod(new, mode)
+
     os.makedirs(os.path.dirname(path), exist_ok=True)
-    shutil.copyfile(source, path + ".new")
-    os.chmod(path + ".new", mode)
-    os.replace(path + ".new", path)
+    tree.put(path, copy)
     return path
 
 
 def linked(target, path):
     """A link in its place at once."""
-    if os.path.lexists(path + ".new"):
-        os.remove(path + ".new")
-    os.symlink(target, path + ".new")
-    os.replace(path + ".new", path)
+    tree.put(path, lambda new: os.symlink(target, new))
     return path
 
 
@@ -70,6 +69,7 @@ def begin(names):
 
 def make(out, with_program):
     """Proves the library, and the program where it is asked for, and puts what is made in its place. Answers the paths."""
+    npm.check(out)
     programs = [PROGRAM] if with_program else []
     below = crates.below(*programs, archive.NAME) + programs
     course = begin([*below, archive.NAME])

@@ -1,5 +1,6 @@
 /* A decoder and page editor for Bildschirmtext (videotex, CEPT profile 1): the whole program as one function, and a decoder that is fed
  * bytes as they come and then edited line by line. Link libtamligub.a, or libtamligub.so.1 as a shared library, and nothing but a C library.
+ * Both are for Linux on x86-64, for processors from x86-64-v2 on; for any other machine there is the module for the web.
  *
  * A page is a stored page as bytes, as it came over the line. A script is a text of lines, each an edit of the page, such as
  * "at 1 2" or "text XY", or "undo" or "redo". A drawing is a text of lines, each a figure, such as "line 0 0 79 71"; it is handed in as

@@ -74,7 +74,7 @@ function givenMemory(act, what) {
     try {
         return act();
     } catch (fault) {
-        throw fault instanceof RangeError ? new NoMemory(`there is no memory for ${what}`) : fault;
+        throw fault instanceof RangeError ? new NoMemory(`there is no memory for ${what}`, { cause: fault }) : fault;
     }
 }
 
@@ -103,7 +103,7 @@ function call(module, word, things, room) {
     const [size, pageSize, scriptSize] = parts.map((part) => BigInt(part.length));
     const status = tamligub_run(first, size, givenOf(things), things.number ?? 0, page, pageSize, script, scriptSize, out, BigInt(room), put);
     const length = Number(new DataView(memory.buffer).getBigUint64(starts[0], true));
-    return { status, text: new Uint8Array(memory.buffer, starts[4], Math.min(length, room)).slice() };
+    return { status, text: givenMemory(() => new Uint8Array(memory.buffer, starts[4], Math.min(length, room)).slice(), "the text") };
 }
 
 // Where there is no memory for what is handed in and out, the answer is that of a program without memory.
@@ -413,8 +413,9 @@ class Decoder {
     // A decoder in the state that a snapshot has.
     static restored(host, snapshot) {
         bytesIn(snapshot);
+        // No snapshot is as long as the room that there always is.
+        if (snapshot.length > ROOM * SIZE_OF_NOTICE) throw new NoSnapshot("this is no snapshot");
         const decoder = new this(host), { shared } = decoder;
-        while (shared.room < snapshot.length) shared.makeRoom();
         new Uint8Array(shared.wasm.memory.buffer).set(snapshot, shared.out);
         const status = decoder.call("tamligub_restore", BigInt(shared.out), BigInt(snapshot.length));
         if (status === 0) return decoder;

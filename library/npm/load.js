@@ -1,3 +1,5 @@
+// Of Node alone, and a name that no bundler reads.
+const FILES = "node:fs/promises";
 const TAKEN = "load takes a WebAssembly.Module, its bytes, a Response, or a URL or its text";
 
 // A WebAssembly.Module: of one, of its bytes, of a Response, or of what stands at a place, which is a URL or its text.
@@ -7,7 +9,7 @@ async function compiled(source) {
     if (typeof Response !== "undefined" && source instanceof Response) return compiledOf(source, source.url || "the response");
     const place = placeOf(source);
     if (place.startsWith("file:") && typeof process !== "undefined" && process.versions?.node) {
-        const { readFile } = await import("node:fs/promises");
+        const { readFile } = await import(/* webpackIgnore: true */ /* @vite-ignore */ FILES);
         return WebAssembly.compile(await readFile(new URL(place)));
     }
     return compiledOf(await fetch(place), place);

@@ -33,7 +33,7 @@ class Built(build_py):
         package = os.path.join(os.path.abspath(self.build_lib), "tamligub")
         copied(LIBRARY, os.path.join(package, os.path.basename(LIBRARY)))
         module = [shipped.MODULE] if os.path.isfile(os.path.join(ROOT, shipped.MODULE)) else []
-        for place in [*shipped.for_people(), *module]:
+        for place in [*shipped.for_people(), *shipped.MANUALS, *module]:
             copied(place, os.path.join(package, "people", place))
 
 

@@ -73,7 +73,7 @@ def places() -> list[str]:
     """Where the library may be, the likeliest place first; the last is its name alone."""
     named = os.environ.get(VARIABLE)
     if named:
-        return [named]
+        return [os.path.abspath(named) if os.path.isfile(named) else named]
     beside = ("", "../../out", "../../../../../lib")
     return [*(os.path.normpath(os.path.join(HERE, place, NAME)) for place in beside), NAME]
 
@@ -150,6 +150,14 @@ def room_for(page: bytes | None) -> int:
     return min(MOST_FIRST, LEAST_ROOM + ROOM_FOR_EACH * len(page or b""))
 
 
+def mapped(room: int) -> mmap.mmap:
+    """Room for a text. Only what is written of it takes memory."""
+    try:
+        return mmap.mmap(-1, room, flags=mmap.MAP_PRIVATE | mmap.MAP_ANONYMOUS)
+    except OSError as fault:
+        raise MemoryError("there is no memory for the text") from fault
+
+
 def run(
     word: str, page: bytes | None = None, script: bytes | None = None, number: int | None = None, calls: ctypes.CDLL | None = None
 ) -> Answer:
@@ -162,8 +170,7 @@ def run(
     name, first, second = word.encode(), page or b"", script or b""
     given = given_of(page, script, number)
     while True:
-        # Only what is written of it takes memory.
-        with mmap.mmap(-1, room, flags=mmap.MAP_PRIVATE | mmap.MAP_ANONYMOUS) as kept:
+        with mapped(room) as kept:
             out = (ctypes.c_char * room).from_buffer(kept)
             try:
                 status = called(

@@ -69,10 +69,11 @@ here: Final = Here()
 
 class Decoder:
     """A decoder of one page, before its first byte. It takes 247 KB of memory, from its first edit on 2.3 MB more, gives them back when it
-    is closed, or forgotten by the thread that made it, and may be used in a `with` block; one that another thread forgets keeps its memory,
-    so close it. It stays on its thread, whose decoders share 707 KB for notices: calls from another one raise RuntimeError. A call needs up
-    to 280 KB of the stack, `text` 650 KB. `Closed` is raised by calls on one that is closed, by what a page that has ended can't do any more,
-    and by lines on one that hasn't; MemoryError where there is no memory. It isn't copied: `restored` makes another of a `snapshot`.
+    is closed, or forgotten by the thread that made it, and may be used in a `with` block; one that another thread forgets, or that lies in
+    a `threading.local` or a context variable when its thread ends, keeps its memory, so close it. It stays on its thread, whose decoders
+    share 707 KB for notices: calls from another one raise RuntimeError. A call needs up to 280 KB of the stack, `text` 650 KB. `Closed` is
+    raised by calls on one that is closed, by what a page that has ended can't do any more, and by lines on one that hasn't; MemoryError
+    where there is no memory. It isn't copied: `restored` makes another of a `snapshot`.
 
     >>> with Decoder() as decoder:
     ...     for notice in decoder.feed(b"A\\x1fBCB"):

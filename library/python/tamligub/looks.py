@@ -47,7 +47,10 @@ class Colour:
 def text_of(of_set: str, code: int, accent: int) -> str:
     """What the word `show` has for a sign at the first place of a page."""
     page = WRITES[of_set] + (ACCENTS + bytes([accent]) if accent else b"") + bytes([code])
-    return binding.run("show", page).text.decode().partition("\n")[0].rstrip() or " "
+    status, text = binding.run("show", page)
+    if status not in (binding.DONE, binding.REFUSALS):
+        raise MemoryError("there is no memory for the text")
+    return text.decode().partition("\n")[0].rstrip() or " "
 
 
 @dataclass(frozen=True, slots=True)
