@@ -17,7 +17,7 @@ import xml.etree.ElementTree
 from typing import Any
 
 import stand
-from building import deb, desktop, parts, tree
+from building import deb, desktop, parts, shared, tree
 
 INSTALL = os.path.join(stand.ROOT, "install")
 
@@ -369,6 +369,24 @@ place.install(False)
         self.is_right(self.run_of("sh", "-ec", line, env=env))
         self.assertEqual(self.is_right(self.run_of(self.path("example"), page)), want)
 
+    def test_what_pkg_config_reads_holds_under_any_prefix(self):
+        config, = self.needs("pkg-config")
+        for prefix in ("/pre fix", "/c#", '/a"b', "/a\\b"):
+            self.written("tamligub.pc", shared.pkg_config(prefix, "${prefix}/lib", "${prefix}/include", "0.1", is_searched=False).encode())
+            done = self.run_of(config, "--cflags", "--libs", "tamligub", env={**self.bare(), "PKG_CONFIG_PATH": self.folder})
+            words = shlex.split(self.is_right(done).decode())
+            self.assertEqual(words, [f"-I{prefix}/include", f"-L{prefix}/lib", f"-Wl,-rpath,{prefix}/lib", "-ltamligub"])
+
+    def test_a_prefix_that_is_not_utf_8_is_told(self):
+        done = self.run_of(INSTALL, os.fsencode(self.path("pre")) + b"\xff", env=stand.environment())
+        self.assertEqual(done.returncode, 1)
+        self.assertIn(b"install: the name of the prefix isn't UTF-8, as files are in which it stands", done.stderr)
+
+    def test_an_install_with_its_output_closed(self):
+        line = f"{INSTALL} {self.path('prefix')} >&-"
+        self.is_right(self.run_of("sh", "-c", line, env=stand.environment(PYTHONSAFEPATH="1")))
+        self.assertTrue(os.path.exists(self.path("prefix", "bin", "btx")))
+
     def test_the_completion_of_bash(self):
         script = self.written("btx.bash", stand.btx("completion", "bash").stdout)
         cases: list[tuple[list[str], list[str]]] = [
@@ -590,7 +608,7 @@ place.install(False)
             f"a desktop knows .btx files after: update-mime-database {share}/mime",
             f"a desktop opens them after: update-desktop-database {share}/applications",
             "update-desktop-database isn't on this machine (Debian: apt-get install desktop-file-utils)",
-            f"it looks there only where its login has: XDG_DATA_DIRS={share}:/usr/local/share:/usr/share",
+            f"it looks there only where its login has: XDG_DATA_DIRS={share}:${{XDG_DATA_DIRS:-/usr/local/share:/usr/share}}",
             "GNOME makes small pictures by programs within /usr alone: they take a prefix there, such as /usr/local",
         ])
 

@@ -38,7 +38,7 @@ def stripped(place, name):
     if shutil.which("strip"):
         with tempfile.TemporaryDirectory(prefix="btx-deb-") as work:
             path = os.path.join(work, os.path.basename(name))
-            place.files[name].make(path)
+            tree.put(path, place.files[name].make)
             asked("strip", "--strip-unneeded", path)
             place.copy(name, path, place.files[name].mode)
 
@@ -79,11 +79,13 @@ PACKAGES = {
         "Suggests": "bash-completion, desktop-file-utils, parallel, python3-websockets, shared-mime-info, xdg-utils",
     }, """decoder and page editor for Bildschirmtext pages
  Shows stored pages in a terminal, in a browser and as pictures, makes a website
- of a collection, checks pages and edits them.
+ of a collection, checks pages and edits them. It needs a processor of the
+ level x86-64-v2 or a later one.
  .
 """ + ABOUT),
     "libtamligub1": (shared_library, None, "libs", {"Depends": "libc6 (>= 2.14)"}, """decoder for Bildschirmtext pages - shared library
- The program as one function, and a decoder that is fed bytes as they come.
+ The program as one function, and a decoder that is fed bytes as they come. It
+ needs a processor of the level x86-64-v2 or a later one.
  .
 """ + ABOUT),
     "libtamligub-dev": (development, None, "libdevel", {"Depends": "libtamligub1 (= {version}), libc6-dev"},

@@ -27,7 +27,9 @@ Cflags: -I"${{includedir}}"
 def pkg_config(prefix, libdir, includedir, version, is_searched):
     """What pkg-config reads. Of a folder that the system doesn't search for libraries, programs are told where it is."""
     path = "" if is_searched else '-Wl,-rpath,"${libdir}" '
-    return PKG_CONFIG.format(prefix=prefix, libdir=libdir, includedir=includedir, version=version, path=path)
+    # Else it takes the sign for the beginning of a comment, or the end of what is quoted.
+    escaped = re.sub(r'([#"\\])', r"\\\1", prefix)
+    return PKG_CONFIG.format(prefix=escaped, libdir=libdir, includedir=includedir, version=version, path=path)
 
 
 def version():

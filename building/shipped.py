@@ -10,6 +10,7 @@ UNSHIPPED = ("codes.py", "drawn.py")
 PACKAGE = "library/python/tamligub"
 SCRIPT = "library/tamligub.js"
 MODULE = "library/out/tamligub.wasm"
+MANUALS = ("docs/btx.1", "docs/cept_tool.1")
 
 
 def in_folder(folder):
