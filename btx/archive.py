@@ -3,7 +3,6 @@ stopped and started again, and then goes on."""
 import argparse
 import dataclasses
 import os
-import shutil
 import sys
 from collections.abc import Iterable
 from types import ModuleType
@@ -48,8 +47,6 @@ def is_inside(path: str, folder: str) -> bool:
 def fault_of(options: argparse.Namespace) -> Fault | None:
     """Why an archive can't be begun with these words, and the status of that; None where it can."""
     out, folder = options.output, options.folder
-    if not out or not folder:
-        return Status.USAGE, f"the name of the {'website' if folder else 'collection'} is empty"
     if "" in options.pattern:
         return Status.USAGE, "a pattern is empty, and no file has such a name; --pattern '*.btx' takes those that end in .btx"
     of_folders = next((pattern for pattern in options.pattern if "/" in pattern), None)
@@ -66,7 +63,7 @@ def fault_of(options: argparse.Namespace) -> Fault | None:
     if website.is_foreign(out):
         said = "has other files in it, which stay; the website needs a new or empty folder, or one that archive has made"
         return Status.UNREAD, f"{html_file.shown_name(out)} {said}"
-    if options.jobs_by == "parallel" and not shutil.which("parallel"):
+    if options.jobs_by == "parallel" and not jobs.has_parallel():
         return NOT_THERE, "GNU parallel isn't on this machine (Debian: apt-get install parallel)"
     return None
 
@@ -109,7 +106,7 @@ class Archive:
     def sort_out(self) -> None:
         """Removes what was made of pages that left the collection, or lists it. What is behind a folder that can't be read stays."""
         names = set(self.here.names)
-        for name in [name for name in self.site.names() if name not in names]:
+        for name in self.site.names() - names:
             behind = self.here.is_behind(name)
             if not behind:
                 self.gone += 1

@@ -9,7 +9,7 @@ from typing import NoReturn, Protocol
 
 from btx import VERSION, archive, cast, check_script, completion, cut, diff, editor, files, film, host, html_file, jobs, library, line
 from btx import messages, near, passing, picture, program, say, svg, telling, terminal, viewer
-from btx.statuses import NOT_THERE
+from btx.statuses import NOT_THERE, Status
 
 
 class Own(Protocol):
@@ -34,6 +34,8 @@ KNOWN = (*program.WORDS, *OWN, "help")
 ALONE = ("-h", "--help", "--version")
 # Words that do without the program, and are given an empty path.
 BY_THEMSELVES = ("viewer", "editor", "line", "cut", "host", "completion")
+# The options that are names of files or folders and are read by the words themselves.
+NAMES = ("folder", "recording", "script")
 EPILOG = """The words of the program pass through with its output and its status; what a status means is said on standard error.
 btx PAGE shows a page as terminal does, btx help WORD describes a word, and a file that is named - is standard input.
 {btx} and {cept_tool} say more. BTX_PROGRAM can name another program, and TAMLIGUB_LIBRARY another library."""
@@ -82,6 +84,9 @@ def parsers() -> argparse.ArgumentParser:
 
 
 def unknown(word: str) -> int:
+    if not word:
+        say("a name is empty")
+        return Status.USAGE
     nearest = near.nearest(word, KNOWN)
     hint = f"; the nearest word is {nearest}" if nearest else ""
     what = "no word of btx" if os.path.exists(word) else "neither a word of btx nor a file"
@@ -147,16 +152,37 @@ def run(words: Sequence[str], beside: str) -> int:
     options, unknown_words = parser.parse_known_args(words)
     if unknown_words:
         getattr(options, "own", parser).error("unrecognized arguments: " + " ".join(unknown_words))
+    if getattr(options, "output", None) == "":
+        options.own.error("-o takes a name after it, and this one is empty")
+    if "" in (getattr(options, name, None) for name in NAMES):
+        say(f"{word}: a name is empty")
+        return Status.USAGE
     options.beside, options.parser = beside, parser
     path = "" if options.word in BY_THEMSELVES else program_for(beside)
     return guarded(path, options.word, OWN[options.word].run, options)
 
 
-def main(words: Sequence[str], beside: str) -> NoReturn:
+def ended(words: Sequence[str], beside: str) -> int:
+    """Runs the words, and writes what is left of the output. Where that can't be done it says so once: nothing of it is tried again."""
     try:
         status = run(words, beside)
+    except SystemExit as end:
+        status = end.code if isinstance(end.code, int) else 0
+    try:
         if sys.stdout:
             sys.stdout.flush()
+    except BrokenPipeError:
+        raise
+    except OSError as fault:
+        os.dup2(os.open(os.devnull, os.O_WRONLY), messages.OUTPUT)
+        word = next((word for word in words if word in KNOWN), "")
+        return status if status == Status.UNREAD else telling.of_fault(word, fault)
+    return status
+
+
+def main(words: Sequence[str], beside: str) -> NoReturn:
+    try:
+        status = ended(words, beside)
     except program.Missing as fault:
         say(fault)
         status = NOT_THERE

@@ -162,7 +162,7 @@ def recorded(name: str) -> bytes:
     """The bytes of a recording, which may be far more than those of a page."""
     if files.is_plain(name) and os.path.getsize(name) > MOST_RECORDED:
         raise live.Full
-    with contextlib.ExitStack() as stack:
+    with contextlib.ExitStack() as stack, files.patience(name):
         file: IO[bytes] = sys.stdin.buffer if name == files.STANDARD else stack.enter_context(open(name, "rb"))
         pieces = iter(lambda: file.read(PIECE), b"")
         data = b"".join(itertools.islice(pieces, MOST_RECORDED // PIECE + 1))
@@ -200,6 +200,8 @@ def run(_: object, options: argparse.Namespace) -> int:
         raise OSError(0, "it is a folder, and a recording is a file", name)
     if name.endswith(recording.TIMES) and os.path.isfile(name.removesuffix(recording.TIMES)):
         raise OSError(0, f"these are the times of a recording, which is {os.path.basename(name).removesuffix(recording.TIMES)}", name)
+    if not options.all and name == files.STANDARD:
+        raise OSError(0, "it has no times beside it; --all does without", "standard input")
     if not options.all and not os.path.exists(name + recording.TIMES) and os.path.exists(name):
         raise OSError(0, f"it has no times beside it, {os.path.basename(name)}{recording.TIMES}; --all does without", name)
     try:

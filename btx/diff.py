@@ -6,13 +6,11 @@ import shutil
 import sys
 from collections.abc import Iterator, Sequence
 
-from btx import files, looks, program, say, terminal
+from btx import at_end, files, looks, program, say, terminal
 from btx.statuses import Status
 
 SUMMARY = "the cells in which the screens of two pages differ"
 SAME, DIFFERENT = 0, 1
-# Looks as they are written, by their places.
-Texts = dict[looks.Place, str]
 
 
 def arguments(parser: argparse.ArgumentParser) -> None:
@@ -22,13 +20,7 @@ def arguments(parser: argparse.ArgumentParser) -> None:
     parser.add_argument("--quiet", action="store_true", help="show neither, and only list the cells")
 
 
-def texts_of(cells: str) -> Texts:
-    """The looks of a text of cells by their places, as they are written."""
-    lines = (line.split(" ", 2) for line in cells.splitlines())
-    return {(int(row), int(column)): look for row, column, look in lines}
-
-
-def differing(one: Texts, other: Texts) -> Iterator[tuple[looks.Place, str, str]]:
+def differing(one: looks.Texts, other: looks.Texts) -> Iterator[tuple[looks.Place, str, str]]:
     """The places at which two screens differ, with both looks."""
     for place in sorted(one.keys() | other.keys()):
         pair = one.get(place, looks.BLANK_TEXT), other.get(place, looks.BLANK_TEXT)
@@ -36,16 +28,16 @@ def differing(one: Texts, other: Texts) -> Iterator[tuple[looks.Place, str, str]
             yield place, *pair
 
 
-def beside(painter: terminal.Painter, screens: Sequence[Texts]) -> Iterator[str]:
+def beside(painter: terminal.Painter, screens: Sequence[looks.Texts]) -> Iterator[str]:
     """Two screens beside each other, a line for each row, with a gap where the terminal has room for one."""
     gap = " " * int(shutil.get_terminal_size().columns > 2 * looks.COLUMNS)
     for rows in zip(*(painter.still({place: looks.look_of(text) for place, text in one.items()}, looks.ROWS) for one in screens)):
         yield gap.join(row.rstrip("\n") for row in rows) + "\n"
 
 
-def screen_of(path: program.Runner, page: str) -> Texts:
+def screen_of(path: program.Runner, page: str) -> looks.Texts:
     with files.read_again(page) as again:
-        return texts_of(program.text_put(path, "cells", again))
+        return at_end.texts(path, again)
 
 
 def run(path: program.Runner, options: argparse.Namespace) -> int:

@@ -13,6 +13,8 @@ from typing import IO
 from btx import program, say
 
 STANDARD = "-"
+# How the names begin of what this process has open; another has something else by them.
+OWN = ("/dev/stdin", "/dev/fd/", "/proc/self/")
 INPUT = 0
 MOST_PAGE = 2**24
 # After so many seconds it is said that a pipe is waited for.
@@ -37,8 +39,8 @@ def comes_slowly(name: str) -> bool:
 
 
 def is_plain(name: str) -> bool:
-    """Whether a name is that of a file that can be read twice."""
-    return name != STANDARD and stat.S_ISREG(mode_of(name))
+    """Whether a name is that of a file that can be read twice, and by another process."""
+    return name != STANDARD and not name.startswith(OWN) and stat.S_ISREG(mode_of(name))
 
 
 @contextlib.contextmanager
@@ -49,7 +51,7 @@ def patience(*names: str) -> Iterator[None]:
     ends = "Ctrl D ends it" if slow == STANDARD and os.isatty(INPUT) else "this waits for what writes it"
     timer = threading.Timer(PATIENCE, say, [f"{shown} is a {'terminal' if ends[0] == 'C' else 'pipe'}; {ends}"])
     timer.daemon = True
-    if slow and sys.stderr.isatty():
+    if slow and sys.stderr and sys.stderr.isatty():
         timer.start()
     try:
         yield

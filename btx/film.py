@@ -1,13 +1,13 @@
 """Writes a GIF of a page being built at the speed of a line, and then as it flashes, again and again. A frame stands for each time at
 which something changes, at most fifty in a second."""
 import argparse
-import dataclasses
 import os
 import sys
 from collections.abc import Iterator
 from types import ModuleType
 
-from btx import canvas, files, looks, picture, pillow, program, recording, say, terminal
+from btx import animation, at_end, canvas, files, looks, picture, pillow, program, recording, say, terminal
+from btx.animation import Frame
 
 SUMMARY = "a film of a page being built and flashing, as GIF"
 # Browsers show no frame for less than two hundredths of a second.
@@ -26,14 +26,6 @@ def arguments(parser: argparse.ArgumentParser) -> None:
     picture.add_reveal(parser)
 
 
-@dataclasses.dataclass
-class Frame:
-    """Dots, and how many steps they are seen."""
-
-    dots: bytes
-    steps: int
-
-
 def steps_of_phases(until: int) -> Iterator[tuple[int, int]]:
     """The steps at which a phase begins, before some step."""
     turn = 0
@@ -46,25 +38,26 @@ def flashes(cells: looks.Cells) -> bool:
     return any(look.flash != "S" for look in cells.values())
 
 
-def frames_of(board: canvas.Canvas, moments: looks.Moments, until: int) -> list[Frame]:
+def frames_of(board: canvas.Canvas, moments: looks.Moments, until: int) -> Iterator[Frame]:
     """The frames of moments, each the step at which cells change and their looks. A phase makes a frame where something flashes."""
     cells: looks.Cells = {}
     changes: dict[int, looks.Cells] = {}
-    frames: list[tuple[int, bytes]] = []
+    last: tuple[int, bytes] | None = None
     for step, changed in moments:
         changes.setdefault(step, {}).update(changed)
     phases = dict(steps_of_phases(until))
-    board.phase = 0
     for step in sorted({0, *changes, *phases}):
         cells.update(changes.get(step, {}))
         board.phase = phases.get(step, board.phase)
-        if frames and step not in changes and not flashes(cells):
+        if last and step not in changes and not flashes(cells):
             continue
         dots = board.screen(cells)
-        if not frames or dots != frames[-1][1]:
-            frames.append((step, dots))
-    ends = [step for step, _ in frames[1:]] + [until]
-    return [Frame(dots, end - step) for (step, dots), end in zip(frames, ends)]
+        if last and dots != last[1]:
+            yield Frame(last[1], STEP * (step - last[0]))
+        if not last or dots != last[1]:
+            last = step, dots
+    if last:
+        yield Frame(last[1], STEP * (until - last[0]))
 
 
 def moments_of(path: program.Runner, page: str, bits: int) -> tuple[looks.Moments, int]:
@@ -75,23 +68,22 @@ def moments_of(path: program.Runner, page: str, bits: int) -> tuple[looks.Moment
     return steps, max([int(os.path.getsize(page) * seconds * STEPS), *(step for step, _ in steps)])
 
 
-def film_of(board: canvas.Canvas, path: program.Runner, options: argparse.Namespace) -> list[Frame]:
+def film_of(board: canvas.Canvas, path: program.Runner, options: argparse.Namespace) -> Iterator[Frame]:
     """The frames of a page."""
     with files.read_again(options.page) as page:
         if options.end:
-            return frames_of(board, [(0, picture.looks_at_end(path, page))], STEPS)
+            return frames_of(board, [(0, at_end.cells(path, page))], STEPS)
         moments, length = moments_of(path, page, options.replay)
     return frames_of(board, moments, length + REST * STEPS)
 
 
 def write(image: ModuleType, path: program.Runner, options: argparse.Namespace) -> int:
-    board = canvas.Canvas(options.reveal)
-    frames = film_of(board, path, options)
-    pictures = (board.picture(image, frame.dots, options.scale) for frame in frames)
-    durations = [10 * STEP * frame.steps for frame in frames]
-    keys = {"duration": durations, "loop": 0} if len(frames) > 1 else {}
+    board = canvas.Canvas(options.reveal, 0)
+    film = animation.Animation(image, board, options.scale)
+    for frame in film_of(board, path, options):
+        film.add(frame)
     with files.output(options.output) as file:
-        next(pictures).save(file, "GIF", save_all=True, append_images=pictures, optimize=False, **keys)
+        film.write(file)
     return 0
 
 

@@ -3,12 +3,13 @@ What is written to it is made of looks alone."""
 from __future__ import annotations
 
 import contextlib
+import errno
 import os
 import select
 import signal
 import termios
 import tty
-from collections.abc import Iterator
+from collections.abc import Callable, Iterator
 from typing import Any, TextIO
 
 from btx import looks, terminal
@@ -77,6 +78,16 @@ def undisturbed() -> Iterator[None]:
         signal.pthread_sigmask(signal.SIG_SETMASK, kept)
 
 
+def whole(call: Callable[..., Any], *things: Any) -> Any:
+    """What a call for a terminal answers, which is made again where a signal ended it, as of a job that comes to the foreground."""
+    while True:
+        try:
+            return call(*things)
+        except termios.error as fault:
+            if fault.args[0] != errno.EINTR:
+                raise OSError(*fault.args) from None
+
+
 def takes(file: int) -> bool:
     """Whether a terminal takes something within a second."""
     watch = select.poll()
@@ -112,8 +123,8 @@ class Glass:
         with undisturbed():
             self.begun = True
             if self.keys is not None:
-                self.kept = self.kept or termios.tcgetattr(self.keys)
-                tty.setraw(self.keys, termios.TCSANOW)
+                self.kept = self.kept or whole(termios.tcgetattr, self.keys)
+                whole(tty.setraw, self.keys, termios.TCSANOW)
         if self.is_terminal:
             self.put(OWN_SCREEN)
 
@@ -152,8 +163,8 @@ class Glass:
                 with contextlib.suppress(OSError):
                     self.put(terminal.PLAIN + terminal.SHOW + FORMER_SCREEN)
             if self.keys is not None and self.kept is not None:
-                with contextlib.suppress(termios.error):
-                    termios.tcsetattr(self.keys, termios.TCSANOW, self.kept)
+                with contextlib.suppress(OSError):
+                    whole(termios.tcsetattr, self.keys, termios.TCSANOW, self.kept)
 
     def leave_page(self, cells: looks.Cells, rows: int) -> None:
         """Puts a page into the terminal as it was, to stay there."""

@@ -3,10 +3,12 @@
 are dropped after a time. With --web the line is a WebSocket, for the viewer in a browser."""
 import argparse
 import asyncio
+import socket
 import time
-from typing import Protocol
+from collections.abc import Coroutine
+from typing import Any, Protocol, TypeVar
 
-from btx import debian, guest, messages, numbers, program, recording, say, web
+from btx import debian, guest, messages, numbers, program, recording, say, web, wire
 from btx.statuses import NOT_THERE
 
 SUMMARY = "a small host for trying terminals, with the pages of a folder"
@@ -16,8 +18,11 @@ NEAR = {"0.0.0.0": HERE, "::": "::1"}
 BITS, PATIENCE, GUESTS = 1200, 300, 100
 # What goes out at once goes out so often a second, at most.
 PIECES = 50
+# So many bytes at most are handed over at once, and the system keeps four times as many that a guest hasn't taken.
+MOST_AT_ONCE = 2**14
 # So many bytes of a guest are kept while a page goes out.
 MOST_TYPED = 64
+Made = TypeVar("Made")
 
 
 def arguments(parser: argparse.ArgumentParser) -> None:
@@ -25,7 +30,8 @@ def arguments(parser: argparse.ArgumentParser) -> None:
     parser.add_argument("--port", type=numbers.whole("a port", 0, 65535), required=True, metavar="N", help="the port; 0 takes one that is free, and says which")
     parser.add_argument("--bits", type=numbers.whole("a speed", 0), default=BITS, metavar="BITS",
                         help=f"how many bits a second; 0 is at once, and without it {BITS}")
-    parser.add_argument("--bind", default=HERE, metavar="ADDRESS", help="for which address it listens; without it this machine alone")
+    parser.add_argument("--bind", type=numbers.named("the address"), default=HERE, metavar="ADDRESS",
+                        help="for which address it listens; without it this machine alone")
     parser.add_argument("--patience", type=numbers.whole("a time", 1), default=PATIENCE, metavar="SECONDS",
                         help=f"after how long a guest is dropped who asks for nothing; without it {PATIENCE}")
     parser.add_argument("--guests", type=numbers.whole("their number", 1), default=GUESTS, metavar="N",
@@ -37,6 +43,7 @@ class Line(Protocol):
     """The line of a guest."""
 
     name: str
+    transport: asyncio.WriteTransport
 
     async def read(self) -> bytes:
         """What the guest sends; empty bytes at the end."""
@@ -52,7 +59,7 @@ class Stream:
     """The line of a guest by TCP."""
 
     def __init__(self, reader: asyncio.StreamReader, writer: asyncio.StreamWriter) -> None:
-        self.reader, self.writer = reader, writer
+        self.reader, self.writer, self.transport = reader, writer, writer.transport
         self.name = "{}:{}".format(*writer.get_extra_info("peername")[:2])
 
     async def read(self) -> bytes:
@@ -68,6 +75,22 @@ class Stream:
         self.writer.close()
 
 
+async def within(seconds: float, act: Coroutine[Any, Any, Made]) -> Made:
+    """What is awaited, for some seconds at most. It ends with the run at any time, which asyncio.wait_for may fail to do."""
+    task = asyncio.create_task(act)
+    if not (await asyncio.wait({task}, timeout=seconds))[0]:
+        task.cancel()
+        raise asyncio.TimeoutError
+    return task.result()
+
+
+def keep_little(transport: asyncio.WriteTransport) -> None:
+    """Has few bytes wait to go out, so that it is seen whether a guest takes any."""
+    if not transport.is_closing():
+        transport.set_write_buffer_limits(MOST_AT_ONCE)
+        transport.get_extra_info("socket").setsockopt(socket.SOL_SOCKET, socket.SO_SNDBUF, 4 * MOST_AT_ONCE)
+
+
 class Host:
     """The guests of a folder of pages."""
 
@@ -78,15 +101,16 @@ class Host:
     async def taken(self, line: Line, data: bytes) -> None:
         """Sends bytes at once, to a guest who takes them."""
         try:
-            await asyncio.wait_for(line.write(data), self.options.patience)
+            await within(self.options.patience, line.write(data))
         except asyncio.TimeoutError:
+            line.transport.abort()
             raise OSError(0, f"it took nothing for {self.options.patience} seconds") from None
 
     async def put(self, line: Line, data: bytes) -> None:
         """Sends bytes at the speed of the line."""
         begun, at = time.monotonic(), 0
         while at < len(data):
-            end = len(data)
+            end = min(len(data), at + MOST_AT_ONCE)
             if self.speed:
                 end = min(end, int((time.monotonic() - begun) * self.options.bits / recording.BITS_OF_A_BYTE))
             if end > at:
@@ -101,7 +125,7 @@ class Host:
         await self.put(line, here.shown())
         until = time.monotonic() + self.options.patience
         while True:
-            typed = await asyncio.wait_for(line.read(), max(0, until - time.monotonic()))
+            typed = await within(max(0, until - time.monotonic()), line.read())
             if not typed:
                 return
             for byte in typed:
@@ -117,6 +141,7 @@ class Host:
             if self.guests > self.options.guests:
                 say(f"host: {line.name} is sent away: {self.options.guests} guests are there")
                 return
+            keep_little(line.transport)
             await self.serve(line)
         except asyncio.TimeoutError:
             say(f"host: {line.name} is dropped: it asked for no page within {self.options.patience} seconds")
@@ -138,13 +163,19 @@ def named(address: str, chosen: int) -> str:
     return f"[{address}]:{chosen}" if ":" in address else f"{address}:{chosen}"
 
 
+async def server_of(host: Host, options: argparse.Namespace) -> Any:
+    """A server whose guests the host welcomes."""
+    try:
+        if options.web:
+            return await web.serve(host.welcome, options.bind, options.port)
+        return await asyncio.start_server(lambda *streams: host.welcome(Stream(*streams)), options.bind, options.port)
+    except UnicodeError:
+        raise OSError(*wire.UNKNOWN) from None
+
+
 async def listen(options: argparse.Namespace) -> None:
     """Serves guests until the run is ended."""
-    host = Host(options)
-    if options.web:
-        server = await web.serve(host.welcome, options.bind, options.port)
-    else:
-        server = await asyncio.start_server(lambda *streams: host.welcome(Stream(*streams)), options.bind, options.port)
+    server = await server_of(Host(options), options)
     address, chosen = server.sockets[0].getsockname()[:2]
     speed = f"{options.bits} bit/s" if options.bits else "at once"
     where, near = named(address, chosen), named(NEAR.get(address, address), chosen)

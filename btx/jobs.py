@@ -69,6 +69,15 @@ class Sent:
             pass  # The runner has ended; what it lacks is seen by the results that don't come.
 
 
+def has_parallel() -> bool:
+    """Whether GNU parallel is on this machine; another program has that name too."""
+    try:
+        said = subprocess.run(["parallel", "--version"], stdin=subprocess.DEVNULL, capture_output=True, check=False).stdout
+    except OSError:
+        return False
+    return said.startswith(b"GNU parallel")
+
+
 def own_command(beside: str) -> str:
     """What a shell of this machine starts btx by: the command, or Python where it is a part of the package."""
     path = os.path.join(beside, "btx")
@@ -95,20 +104,31 @@ def parallel_words(options: argparse.Namespace) -> list[str]:
     return ["parallel", "--will-cite", "--pipe", "-N", str(PAGES_A_JOB), *jobs, *machines, f"{remote(options)} {shlex.join(WORKER)}"]
 
 
+def result_of(line: str) -> tuple[int, making.Made] | None:
+    """The number of a page and what was made of it, of a line that comes back; None where it is no such line."""
+    try:
+        result = json.loads(line)
+        return result["number"], (making.Facts(**result["facts"]), result["parts"])
+    except (ValueError, KeyError, TypeError):
+        return None
+
+
 def by_parallel(website: Website, here: collection.Collection, names: Sequence[str], words: Sequence[str]) -> Iterator[Result]:
-    """The same by GNU parallel: pages go to its jobs and results come back over their input and output."""
+    """The same by GNU parallel: pages go to its jobs and results come back over their input and output. What else comes back, as from a run
+    that was cut off in the middle of a line, is passed over; its pages are lacking then."""
     sent = Sent(here, names, website.has_module)
     runner = subprocess.Popen(
-        [*program.ending_with_us("TERM"), *words], stdin=subprocess.PIPE, stdout=subprocess.PIPE, text=True, encoding="ascii"
+        [*program.ending_with_us("TERM"), *words], stdin=subprocess.PIPE, stdout=subprocess.PIPE, text=True, encoding="ascii", errors="replace"
     )
     assert runner.stdout is not None, "it is a pipe"
     feeder = threading.Thread(target=sent.feed, args=(runner.stdin,), daemon=True)
     feeder.start()
     try:
         for line in runner.stdout:
-            result = json.loads(line)
-            name = names[result["number"]]
-            yield name, website.add(name, making.Facts(**result["facts"]), result["parts"])
+            result = result_of(line)
+            if result:
+                name = names[result[0]]
+                yield name, website.add(name, *result[1])
         feeder.join()
         yield from ((name, website.add(name, facts, None)) for name, facts in sent.unread.items())
     finally:

@@ -7,12 +7,20 @@ from btx import letters, near
 
 # What a key sends that leaves.
 LEAVE = "leave"
-SEQUENCE = re.compile(r"\x1b\[[0-?]*[ -/]*[@-~]|\x1bO[ -~]|\x1b", re.DOTALL)
+# A key's sequence, after ESC where Alt is struck with it; a sign with Alt; and what is broken off.
+SEQUENCE = re.compile(
+    r"\x1b?\x1b(?:\[\[[A-E]|\[\d+\$|\[[0-?]*[ -/]*[@-~]|O\d*[ -/:-~])|\x1b[^[O\x1b]|\x1b(?:\[[0-?]*[ -/]*|O\d*)?", re.DOTALL
+)
+# The end of what was read that may be the front of a longer sequence, of which none is that long.
+UNFINISHED = re.compile(r"\x1b?\x1b(?:\[(?!\d+\$)(?:\[|[0-?]{0,32}[ -/]{0,4})|O\d{0,4})?\Z")
 ARROWS = {"A": "up", "B": "down", "C": "right", "D": "left", "H": "home", "F": "end", "P": "f1", "Q": "f2", "R": "f3", "S": "f4"}
 NUMBERED = {
     1: "home", 2: "insert", 3: "delete", 4: "end", 5: "pageup", 6: "pagedown", 7: "home", 8: "end", 11: "f1", 12: "f2", 13: "f3", 14: "f4",
     15: "f5", 17: "f6", 18: "f7", 19: "f8", 20: "f9", 21: "f10", 23: "f11", 24: "f12",
 }
+# The keys that the console of Linux sends by these and a letter.
+OF_CONSOLE = "\x1b[["
+CONSOLE = {"A": "f1", "B": "f2", "C": "f3", "D": "f4", "E": "f5"}
 CONTROLS = {"\r": "return", "\n": "return", "\t": "tab", "\x08": "backspace", "\x7f": "backspace", "\x1b": "escape"}
 # Names of signs that a table can't have as they are.
 SIGNS = {"space": " ", "hash": "#"}
@@ -35,9 +43,11 @@ def named(sequence: str) -> str:
     """The name of a key that a terminal sends as a sequence, or an empty one of a sequence that isn't known."""
     if len(sequence) == 1:
         return CONTROLS[sequence]
-    number = re.fullmatch(r"\x1b\[(\d+)~", sequence)
+    number = re.fullmatch(r"\x1b\[(\d{1,3})~", sequence)
     if number:
         return NUMBERED.get(int(number[1]), "")
+    if sequence.startswith(OF_CONSOLE):
+        return CONSOLE.get(sequence[-1], "")
     return ARROWS.get(sequence[-1], "") if len(sequence) == 3 else ""
 
 
@@ -110,10 +120,10 @@ def table_of(path: str | None) -> Table:
 
 
 class Keyboard:
-    """Reads what a terminal sends for keys, in any pieces."""
+    """Reads what a terminal sends for keys, in any pieces. What may be the front of a key is held until more comes or it is let go."""
 
     def __init__(self, table: Table) -> None:
-        self.table = table
+        self.table, self.held = table, ""
         self.decoder = codecs.getincrementaldecoder("utf-8")("ignore")
 
     def of_key(self, key: str) -> Sent:
@@ -124,4 +134,15 @@ class Keyboard:
 
     def sent(self, data: bytes) -> list[Sent]:
         """What the keys of some bytes send, one by one: bytes, or LEAVE."""
-        return [sent for sent in map(self.of_key, keys_in(self.decoder.decode(data))) if sent]
+        text = self.held + self.decoder.decode(data)
+        front = UNFINISHED.search(text)
+        self.held = front[0] if front else ""
+        return self.of_keys(text.removesuffix(self.held))
+
+    def let_go(self) -> list[Sent]:
+        """What is sent by the front of a key that nothing followed."""
+        text, self.held = self.held, ""
+        return self.of_keys(text)
+
+    def of_keys(self, text: str) -> list[Sent]:
+        return [sent for sent in map(self.of_key, keys_in(text)) if sent]

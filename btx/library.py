@@ -83,7 +83,7 @@ class Library:
     def answer(self, word: str, page: bytes | None, script: bytes | None, number: int | None) -> program.Ending:
         try:
             status, text = self.run(word, page, script, number, self.calls)
-        except (MemoryError, OSError):
+        except MemoryError:
             return b"", Status.NO_MEMORY
         return text, status
 
@@ -106,7 +106,7 @@ def place(beside: str) -> str | None:
     """The path of the library: the one that is named, or that is there; None where the program is to be taken."""
     named = os.environ.get(VARIABLE)
     if named is not None:
-        return named or None
+        return os.path.abspath(named) if os.path.isfile(named) else named or None
     if os.environ.get("BTX_PROGRAM"):
         return None
     there = standing(beside)

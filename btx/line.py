@@ -8,9 +8,10 @@ import select
 import signal
 import sys
 import time
+from collections.abc import Callable
 from typing import NoReturn, Protocol
 
-from btx import files, glass, keyboard, live, looks, messages, passing, recording, say, terminal, wire
+from btx import files, glass, keyboard, live, looks, messages, numbers, passing, recording, say, terminal, wire
 
 SUMMARY = "a line in the terminal: a host, a serial device or standard input"
 NAMES = "HOST:PORT, serial:DEVICE:BITS, as serial:/dev/ttyS0:1200, or -"
@@ -19,9 +20,13 @@ PATIENCE = 60
 # The least time between two pictures, in seconds; cells are painted at once.
 PICTURES_AFTER = 0.1
 PHASE = 1 / 6
-# So many bytes of keys wait for a line that takes none; what is struck then is lost.
-MOST_UNSENT = 4096
+# So many bytes of keys wait for a line that takes none. A pipe waits then, and what is struck in a terminal is lost, since a key may leave.
+MOST_UNSENT = 2**16
+# How long the rest of a key's sequence is waited for, in seconds.
+REST_IN = 0.05
 EVER = float("inf")
+# So many milliseconds the system waits at once, at most.
+MOST_WAIT = 2**31 - 1
 
 
 def line_name(text: str) -> wire.Name:
@@ -35,8 +40,9 @@ def line_name(text: str) -> wire.Name:
 
 def arguments(parser: argparse.ArgumentParser) -> None:
     parser.add_argument("line", metavar="LINE", type=line_name, help=NAMES)
-    parser.add_argument("--record", metavar="FILE", help="keep what comes, as a stored page, and in FILE.times when it came")
-    parser.add_argument("--keys", metavar="FILE", help="a table of what keys send")
+    parser.add_argument("--record", type=numbers.named("the name of the recording"), metavar="FILE",
+                        help="keep what comes, as a stored page, and in FILE.times when it came")
+    parser.add_argument("--keys", type=numbers.named("the name of the table"), metavar="FILE", help="a table of what keys send")
     parser.add_argument("--patience", type=recording.seconds, default=PATIENCE, metavar="SECONDS",
                         help=f"how long an answer is waited for; 0 is for ever, and without it {PATIENCE}")
     parser.add_argument("--reveal", action="store_true", help="show what is concealed")
@@ -58,6 +64,10 @@ class Shown:
         self.decoder, self.count = decoder, 0
         self.cells: looks.Cells = {}
         self.flashing: set[looks.Place] = set()
+
+    def page(self) -> looks.Cells:
+        """The page in no phase: what flashes has the look with which it was fed."""
+        return self.cells | {place: self.decoder.look(*place) for place in self.flashing}
 
     def taken(self, changed: looks.Cells) -> looks.Cells:
         """Takes what was fed; what flashes is shown as it is seen until its next phase begins."""
@@ -97,9 +107,9 @@ class Timers:
         self.answer = time.monotonic() + self.patience
 
     def wait(self, now: float) -> float | None:
-        """How many milliseconds there are until the first is due, or None where none is."""
+        """How many milliseconds there are until the first is due, as far as can be waited at once; or None where none is."""
         due = min(self.phase, self.answer, self.paint)
-        return None if due == EVER else max(0, 1000 * (due - now))
+        return None if due == EVER else min(MOST_WAIT, max(0, 1000 * (due - now)))
 
 
 class Pane(Protocol):
@@ -128,9 +138,9 @@ class Session:
     ) -> None:
         self.line, self.shown, self.glass, self.keys, self.patience = line, shown, pane, keys, options.patience
         self.keyboard = keyboard.Keyboard(table)
-        self.recorder = recording.Recorder(options.record) if options.record else None
+        self.recorder = recording.Recorder(options.record) if options.record is not None else None
         self.timers = Timers(options.patience if line.sends else 0)
-        self.unsent, self.painted = b"", -EVER
+        self.unsent, self.painted, self.rest = b"", -EVER, EVER
         self.waiting: looks.Cells = {}
 
     def run(self, signals: glass.Signals) -> NoReturn:
@@ -140,10 +150,11 @@ class Session:
             events = dict(self.polled(signals.reading))
             if signals.reading in events:
                 self.signalled(signals.told())
-            if self.keys in events:
-                self.struck()
+            # The line takes what waits before more keys are read.
             if self.line.fileno() in events:
                 self.moved(events[self.line.fileno()])
+            if self.keys in events:
+                self.struck()
             self.pass_on(time.monotonic())
 
     def polled(self, signals: int) -> list[tuple[int, int]]:
@@ -151,9 +162,18 @@ class Session:
         watch = select.poll()
         watch.register(signals, select.POLLIN)
         watch.register(self.line.fileno(), select.POLLIN | (select.POLLOUT if self.unsent else 0))
-        if self.keys is not None:
+        if self.keys is not None and (self.room() or self.glass.has_keys()):
             watch.register(self.keys, select.POLLIN)
-        return watch.poll(self.timers.wait(time.monotonic()))
+        return watch.poll(self.wait(time.monotonic()))
+
+    def wait(self, now: float) -> float | None:
+        """How many milliseconds there are until something is due, or None where nothing is."""
+        waits = self.timers.wait(now), None if self.rest == EVER else max(0, 1000 * (self.rest - now))
+        return min((one for one in waits if one is not None), default=None)
+
+    def room(self) -> int:
+        """For how many bytes of keys there is room; where none are sent any number may come."""
+        return max(0, MOST_UNSENT - len(self.unsent)) if self.line.sends else wire.PIECE
 
     def bytes_so_far(self) -> str:
         return f"after {self.shown.count:,} bytes"
@@ -176,11 +196,18 @@ class Session:
         if not data:
             raise End(DONE, f"the line has ended, {self.bytes_so_far()}" if self.line.sends else "")
         if self.recorder:
-            self.recorder.came(data)
+            self.record(self.recorder.came, data)
         self.show(self.shown.feed(data))
         self.timers.answer = EVER
         if not self.glass.has_keys():
             self.timers.await_answer()
+
+    def record(self, take: Callable[..., None], *data: bytes) -> None:
+        """Has the recording take something; where it can't, the line is ended."""
+        try:
+            take(*data)
+        except OSError as fault:
+            raise End(BROKEN, f"{fault.filename}: {messages.why(fault)}, {self.bytes_so_far()}") from None
 
     def show(self, changed: looks.Cells) -> None:
         """Paints what has changed, or has it wait for its time."""
@@ -207,25 +234,33 @@ class Session:
             self.show(self.shown.turn())
         if now >= self.timers.paint:
             self.paint()
+        if now >= self.rest:
+            self.rest = EVER
+            self.obey(self.keyboard.let_go())
 
     def struck(self) -> None:
         """Sends what the keys that were struck send."""
         try:
-            data = b"" if self.keys is None else os.read(self.keys, wire.PIECE)
+            data = b"" if self.keys is None else os.read(self.keys, self.room() or wire.PIECE)
         except OSError:
             data = b""
         if not data:
             self.keys = None
-        for sent in self.keyboard.sent(data):
+        self.obey(self.keyboard.sent(data))
+        self.rest = time.monotonic() + REST_IN if self.keyboard.held else EVER
+
+    def obey(self, keys: list[keyboard.Sent]) -> None:
+        """Does what keys do. Where there is room for some, all of them are sent, also those that send several bytes."""
+        takes = self.line.sends and self.room() > 0
+        for sent in keys:
             if isinstance(sent, str):
                 raise End(DONE, stays=False)
-            self.send(sent)
+            if takes:
+                self.send(sent)
 
     def send(self, data: bytes) -> None:
-        if not self.line.sends or len(self.unsent) + len(data) > MOST_UNSENT:
-            return
         if self.recorder:
-            self.recorder.key()
+            self.record(self.recorder.key)
         self.unsent += data
         self.timers.await_answer()
 
@@ -234,6 +269,8 @@ class Session:
         if signal.SIGTSTP in numbers:
             self.glass.end()
             os.kill(os.getpid(), signal.SIGSTOP)
+        if {signal.SIGTSTP, signal.SIGCONT} & numbers and self.timers.answer != EVER:
+            self.timers.await_answer()
         if {signal.SIGTSTP, signal.SIGCONT, signal.SIGWINCH} & numbers:
             self.glass.again(self.shown.cells, self.shown.position())
 
@@ -244,7 +281,7 @@ class Session:
 
     def leave_page(self) -> None:
         """Leaves the page in the terminal as it was."""
-        self.glass.leave_page(self.shown.cells, self.shown.decoder.state().rows)
+        self.glass.leave_page(self.shown.page(), self.shown.decoder.state().rows)
 
 
 def keys_for(line: wire.Line) -> int | None:
@@ -255,6 +292,16 @@ def keys_for(line: wire.Line) -> int | None:
         return os.open("/dev/tty", os.O_RDWR | os.O_NOCTTY)
     except OSError:
         return None
+
+
+def keep_input(name: wire.Name) -> None:
+    """Has something stand as standard input where that is closed: else the line would have its number, and be read as keys."""
+    try:
+        os.fstat(files.INPUT)
+    except OSError:
+        if name.text == files.STANDARD:
+            raise OSError(0, "that is standard input, and it is closed", name.text) from None
+        os.open(os.devnull, os.O_RDONLY)
 
 
 def hold(session: Session, signals: glass.Signals) -> End:
@@ -294,6 +341,7 @@ def run(_: object, options: argparse.Namespace) -> int:
         say("line: - is standard input, and that is a terminal")
         return 2
     files.write_utf8(newline="\n")
+    keep_input(options.line)
     try:
         with contextlib.closing(options.line.open()) as line:
             end = watch(line, table, options)

@@ -1,4 +1,5 @@
 """The lists of an archive: its index, its order, and its report as a table and as JSON."""
+import contextlib
 import csv
 import dataclasses
 import json
@@ -105,17 +106,18 @@ def write_index(out: str, facts: AllFacts, rows: Sequence[Row]) -> None:
     write_parts(os.path.join(out, "words"), ((search.file_of(one), found.script(one)) for one in letters))
     top = html_file.data_of({**columns_of(facts, names), "letters": {one: search.file_of(one) for one in letters}})
     document = html_file.text_of("archive.html").replace(ENTRIES, f'<script type="application/json" id="entries">{top}</script>')
-    website.write(os.path.join(out, "index.html"), document)
+    website.write(os.path.join(out, website.INDEX), document)
 
 
 def write_parts(folder: str, texts: Iterable[tuple[str, str]]) -> None:
-    """The files of a folder of parts, of their names and texts; those that are no part any more go."""
+    """The files of a folder of parts, of their names and texts; other files go, where they can."""
     written: set[str] = set()
     for file, text in texts:
         website.write(os.path.join(folder, file), text)
         written.add(file)
     for file in set(os.listdir(folder) if os.path.isdir(folder) else ()) - written:
-        os.remove(os.path.join(folder, file))
+        with contextlib.suppress(OSError):
+            os.remove(os.path.join(folder, file))
 
 
 def step_to(name: str, facts: AllFacts) -> list[str] | None:
@@ -136,6 +138,6 @@ def write(out: str, facts: AllFacts, separator: str) -> None:
     rows = list(rows_of(facts))
     write_walk(out, facts)
     write_index(out, facts, rows)
-    write_table(os.path.join(out, "report.csv"), rows, separator)
+    write_table(os.path.join(out, website.TABLE), rows, separator)
     report = json.dumps([dataclasses.asdict(row) for row in rows], ensure_ascii=False, indent=1) + "\n"
-    website.write(os.path.join(out, "report.json"), report)
+    website.write(os.path.join(out, website.REPORT), report)

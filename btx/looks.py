@@ -1,5 +1,6 @@
 """Looks, as the program's texts name them. The man page says what each field is."""
 import re
+from collections.abc import Iterator
 from typing import NamedTuple
 
 ROWS, COLUMNS = 24, 40
@@ -36,9 +37,11 @@ class Pattern(NamedTuple):
     numbers: list[int]
 
 
-# Looks by their places, each a row and a column; and, one after the other, the places of bytes with the cells that change there.
+# Looks by their places, each a row and a column, and as they are written; and, one after the other, the places of bytes with the cells that
+# change there.
 Place = tuple[int, int]
 Cells = dict[Place, Look]
+Texts = dict[Place, str]
 Moments = list[tuple[int, Cells]]
 
 
@@ -52,25 +55,40 @@ BLANK_TEXT = "- 11.00 FFF 000 S---"
 BLANK = look_of(BLANK_TEXT)
 
 
+def texts_of(cells: str) -> Texts:
+    """The looks of a text of cells by their places, as they are written; the others are blank."""
+    lines = (line.split(" ", 2) for line in cells.splitlines())
+    return {(int(row), int(column)): look for row, column, look in lines}
+
+
 def cells_of(text: str) -> Cells:
-    """The looks of a text of cells by their places, each a row and a column; the others are blank."""
-    looks: Cells = {}
-    for line in text.splitlines():
-        row, column, look = line.split(" ", 2)
-        looks[int(row), int(column)] = look_of(look)
-    return looks
+    """The same as looks."""
+    return {place: look_of(look) for place, look in texts_of(text).items()}
+
+
+def text_of(texts: Texts) -> str:
+    """A text of cells."""
+    return "".join(f"{row} {column} {texts[row, column]}\n" for row, column in sorted(texts))
+
+
+def changes_in(text: str) -> Iterator[str]:
+    """The change lines of a text of changes."""
+    return (line for line in text.splitlines() if not line.startswith("!"))
+
+
+def change_of(line: str) -> tuple[int, Place, str]:
+    """What a line of changes or of flash tells: the place of a byte or the turn, and a cell with its look."""
+    at, row, column, look = line.split(" ", 3)
+    return int(at), (int(row), int(column)), look
 
 
 def moments_of(text: str) -> Moments:
     """Of a text of changes, for each byte at which cells change: the byte's place, and the looks by their places."""
     moments: Moments = []
-    for line in text.splitlines():
-        if line.startswith("!"):
-            continue
-        place, row, column, look = line.split(" ", 3)
-        if not moments or moments[-1][0] != int(place):
-            moments.append((int(place), {}))
-        moments[-1][1][int(row), int(column)] = look_of(look)
+    for at, place, look in map(change_of, changes_in(text)):
+        if not moments or moments[-1][0] != at:
+            moments.append((at, {}))
+        moments[-1][1][place] = look_of(look)
     return moments
 
 

@@ -9,7 +9,7 @@ import stat
 import zlib
 from collections.abc import Iterator, Mapping, Sequence
 
-from btx import files, listing, looks, messages, program, signs
+from btx import at_end, files, listing, looks, messages, program, signs
 from btx.statuses import READ, Status
 
 # Parts are packed quickly: the text of changes is long, and much of it the same.
@@ -147,11 +147,11 @@ def shown_of(path: program.Runner, source: program.Word, page: bytes, has_module
     """The parts that show a page: its screen, and of a page whose changes the browser doesn't decode these too. The screen at the end
     follows from the changes, unless it takes too long to find there."""
     if has_module and len(page) > LONG:
-        return {"cells": program.text_put(path, "cells", source, before=before)}
+        return {"cells": looks.text_of(at_end.texts(path, source, before))}
     changes = program.bytes_put(path, "changes", source, before=before)
     cells = looks.last_cells(changes)
     if cells is None:
-        cells = program.text_put(path, "cells", source, before=before)
+        cells = looks.text_of(at_end.texts(path, source, before))
     return {"deflated": packed(changes), "cells": cells}
 
 

@@ -3,9 +3,10 @@ in a folder. What flashes is shown as it is seen."""
 import argparse
 import os
 import sys
+from collections.abc import Sequence
 from types import ModuleType
 
-from btx import canvas, files, html_file, looks, numbers, pillow, program, say, telling
+from btx import at_end, canvas, files, html_file, looks, numbers, pillow, program, say, telling
 
 SUMMARY = "a picture of the screen at the end of each page, as PNG"
 MOST_SCALE, PHASES = 8, 6
@@ -46,35 +47,34 @@ def refused(word: str, options: argparse.Namespace) -> str | None:
         return f"several pages take a folder, by -o FOLDER, and {options.output} is none"
     if options.pages.count(files.STANDARD) > 1:
         return "standard input is one page, and - stands more than once"
-    return None
+    names = names_of(options.pages)
+    same = next((name for name in names if names.count(name) > 1), None)
+    return f"two pages would have the same picture, {same}; each alone has one by -o FILE" if same else None
 
 
-def targets_of(options: argparse.Namespace, ending: str) -> list[str]:
+def names_of(pages: Sequence[str]) -> list[str]:
+    """The names of pictures in a folder, of the pages' own."""
+    return [name.replace(os.sep, "_") + ENDING for name in html_file.names_of(pages)]
+
+
+def targets_of(options: argparse.Namespace) -> list[str]:
     """Where each picture is written: into a folder by the page's name, or where the option says."""
     if len(options.pages) == 1 and not os.path.isdir(options.output or ""):
         return [options.output]
     os.makedirs(options.output, exist_ok=True)
-    names = [name.replace(os.sep, "_") for name in html_file.names_of(options.pages)]
-    return [os.path.join(options.output, name + ending) for name in names]
-
-
-def looks_at_end(path: program.Runner, page: str) -> looks.Cells:
-    """The looks at the end of a page, of the rows below its format too: cells leaves these out, and flash doesn't."""
-    cells = looks.cells_of(program.text_put(path, "cells", page))
-    shown = (line.partition(" ")[2] for line in program.text_put(path, "flash", page, "0").splitlines())
-    return looks.cells_of("\n".join(shown)) | cells
+    return [os.path.join(options.output, name) for name in names_of(options.pages)]
 
 
 def cells_of(path: program.Runner, page: str) -> looks.Cells:
-    """The same of a page that may be read once alone."""
+    """The looks at the end of a page that may be read once alone."""
     with files.read_again(page) as again:
-        return looks_at_end(path, again)
+        return at_end.cells(path, again)
 
 
 def write(image: ModuleType, path: program.Runner, options: argparse.Namespace) -> int:
     """Writes the picture of each page that can be read."""
     pages = telling.Pages(path, "png")
-    for page, target in zip(options.pages, targets_of(options, ENDING)):
+    for page, target in zip(options.pages, targets_of(options)):
         cells = pages.read(cells_of, page)
         if cells is None:
             continue

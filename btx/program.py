@@ -1,5 +1,6 @@
 """The program: where it is, its words, and running it."""
 import os
+import re
 import shlex
 import shutil
 import subprocess
@@ -12,6 +13,8 @@ from btx.statuses import READ
 ROOT = os.path.dirname(os.path.dirname(os.path.abspath(__file__)))
 CRATE = os.path.join(ROOT, "crates", "cept_tool")
 NAME = "cept_tool"
+# The last line of a text of check.
+COUNTS = re.compile(r"^items (\d+) refused (\d+)$", re.MULTILINE)
 BUILD = os.path.join(ROOT, "build")
 # Where `./build --quick` keeps the program as `rt try` compiles it: unproved.
 QUICK = os.path.join(ROOT, "out", "quick", NAME)
@@ -160,5 +163,7 @@ def text_put(program: Runner, word: str, page: Word, *after: Word, before: Seque
 
 def counts_in(text: str) -> tuple[int, int]:
     """How many items there are and how many are refused, of a text of check."""
-    items, refused = text.splitlines()[-1].split(" ")[1::2]
-    return int(items), int(refused)
+    found = COUNTS.search(text)
+    if not found:
+        raise Missing(f"what stands in the place of {NAME} has written no text of check")
+    return int(found[1]), int(found[2])

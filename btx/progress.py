@@ -1,4 +1,5 @@
 """How far an archive is: a line on a terminal, and lists that are written anew now and then."""
+import io
 import math
 import os
 import sys
@@ -37,7 +38,7 @@ class Progress:
 
     def __init__(self, total: int, stream: TextIO | None = None, clock: Callable[[], float] = time.monotonic) -> None:
         self.total, self.done, self.refused, self.unread = total, 0, 0, 0
-        self.stream, self.clock = stream or sys.stderr, clock
+        self.stream, self.clock = stream or sys.stderr or io.StringIO(), clock
         self.begun = self.said = clock()
         self.shown = self.stream.isatty()
 

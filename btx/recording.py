@@ -6,9 +6,10 @@ import bisect
 import os
 import re
 import time
+from io import FileIO
 from typing import Protocol
 
-from btx import typed
+from btx import files, typed
 
 TIMES = ".times"
 BITS_OF_A_BYTE = 10
@@ -22,6 +23,14 @@ class Clock(Protocol):
         """By how many seconds so many bytes have come."""
 
 
+def put(file: FileIO, data: bytes) -> None:
+    """Writes bytes to a file, whole; why that fails is raised with its name."""
+    try:
+        files.put_all(file.fileno(), data)
+    except OSError as fault:
+        raise OSError(fault.errno, fault.strerror, file.name) from None
+
+
 class Recorder:
     """Writes a recording as it comes; what came stays, whatever ends the run."""
 
@@ -29,14 +38,20 @@ class Recorder:
         for one in (path, path + TIMES):
             if os.path.lexists(one):
                 raise OSError(0, "it is there already, and a recording is never written over", one)
-        self.page, self.times = (open(one, "xb", buffering=0) for one in (path, path + TIMES))
+        self.page = open(path, "xb", buffering=0)
+        try:
+            self.times = open(path + TIMES, "xb", buffering=0)
+        except OSError:
+            self.page.close()
+            os.unlink(path)
+            raise
         self.begun = time.monotonic()
 
     def note(self, count: int) -> None:
-        self.times.write(b"%d %d\n" % ((time.monotonic() - self.begun) * 1000, count))
+        put(self.times, b"%d %d\n" % ((time.monotonic() - self.begun) * 1000, count))
 
     def came(self, data: bytes) -> None:
-        self.page.write(data)
+        put(self.page, data)
         self.note(len(data))
 
     def key(self) -> None:

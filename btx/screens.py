@@ -1,10 +1,12 @@
 """Pictures in terminals: by the protocols of kitty and of sixel, from the dots of a screen, and what a terminal says of itself."""
 import base64
 import contextlib
+import fcntl
 import itertools
 import os
 import re
 import select
+import struct
 import termios
 import tty
 import zlib
@@ -15,9 +17,10 @@ from btx import canvas, looks
 KITTY, SIXEL = "kitty", "sixel"
 # A picture goes in pieces of at most so many signs.
 PIECE = 4096
-# Whether kitty's protocol is known, and then which kind of terminal it is: every terminal answers that.
-ASKED = b"\x1b_Gi=31,s=1,v=1,a=q,t=d,f=24;AAAA\x1b\\\x1b[c"
+# Whether kitty's protocol is known, how many pixels high and wide the terminal is, and then of which kind: every terminal answers that.
+ASKED = b"\x1b_Gi=31,s=1,v=1,a=q,t=d,f=24;AAAA\x1b\\\x1b[14t\x1b[c"
 ATTRIBUTES = re.compile(rb"\x1b\[\?([\d;]*)c")
+PIXELS = re.compile(rb"\x1b\[4;(\d{1,6});(\d{1,6})t")
 HAS_SIXEL = "4"
 # How long a terminal is waited for, in seconds.
 PATIENCE = 1
@@ -66,6 +69,23 @@ def protocol_in(answer: bytes) -> str | None:
     return SIXEL if found and HAS_SIXEL in found[1].decode().split(";")[1:] else None
 
 
+def has_room(size: bytes, answer: bytes) -> bool:
+    """Whether a picture by sixel fits with a row below it, to which the cursor goes, by what the system has of a terminal's size, or else
+    by what the terminal answers. Where neither says how many pixels there are it doesn't."""
+    rows, _, width, height = map(int, struct.unpack("HHHH", size))
+    told = PIXELS.search(answer)
+    if told and not (width and height):
+        height, width = map(int, told.groups())
+    return width >= canvas.WIDTH * canvas.DOT[0] and height - height // (rows or looks.ROWS) >= canvas.HEIGHT * canvas.DOT[1]
+
+
+def protocol_of(terminal: int) -> str | None:
+    """The protocol of pictures that a terminal has, and for which it has room, or None."""
+    answer = answer_of(terminal)
+    found = protocol_in(answer)
+    return found if found != SIXEL or has_room(fcntl.ioctl(terminal, termios.TIOCGWINSZ, bytes(8)), answer) else None
+
+
 def protocol() -> str | None:
     """The protocol of pictures that the terminal of this run has, or None."""
     try:
@@ -73,7 +93,7 @@ def protocol() -> str | None:
     except OSError:
         return None
     try:
-        return protocol_in(answer_of(terminal))
+        return protocol_of(terminal)
     except (OSError, termios.error):
         return None
     finally:

@@ -4,11 +4,11 @@ import argparse
 from collections.abc import Iterable, Iterator
 from html import escape
 
-from btx import canvas, files, html_file, looks, picture, program
+from btx import at_end, canvas, files, html_file, letters, looks, picture, program
 
 SUMMARY = "a drawing of the screen at the end of a page, as SVG"
 WIDTH, HEIGHT = canvas.WIDTH, canvas.HEIGHT
-HEAD = """<svg xmlns="http://www.w3.org/2000/svg" width="{width}" height="{height}" viewBox="0 0 {width} {height}" role="img">
+HEAD = """<svg xmlns="http://www.w3.org/2000/svg" width="{width}" height="{height}" viewBox="0 0 {width} {height}">
 <title>{title}</title>
 <rect width="{width}" height="{height}" fill="#{ground}"/>
 <g transform="scale({across} {down})" shape-rendering="crispEdges">
@@ -64,9 +64,9 @@ def lines_of(text: str, size: int) -> Iterator[str]:
     across, down = canvas.DOT[0] * 12, canvas.DOT[1] * 10
     for row, line in enumerate(text.splitlines()):
         if line.strip():
-            shown = escape(line.rstrip())
-            width = len(line.rstrip()) * across
-            yield f'<text x="0" y="{row * down + size}" textLength="{width}" lengthAdjust="spacingAndGlyphs">{shown}</text>\n'
+            shown = line.rstrip()
+            width = len(letters.signs_in(shown)) * across
+            yield f'<text x="0" y="{row * down + size}" textLength="{width}" lengthAdjust="spacingAndGlyphs">{escape(shown)}</text>\n'
 
 
 def document(board: canvas.Canvas, cells: looks.Cells, text: str, title: str) -> str:
@@ -84,7 +84,7 @@ def document(board: canvas.Canvas, cells: looks.Cells, text: str, title: str) ->
 
 def run(path: program.Runner, options: argparse.Namespace) -> int:
     with files.read_again(options.page) as page:
-        cells = picture.looks_at_end(path, page)
+        cells = at_end.cells(path, page)
         text = program.text_put(path, "show", page)
     board = canvas.Canvas(options.reveal, options.phase)
     with files.output(options.output) as file:

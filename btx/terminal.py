@@ -9,7 +9,7 @@ import time
 from collections.abc import Iterable, Iterator, Mapping, Sequence
 from typing import Protocol, TextIO
 
-from btx import canvas, files, looks, messages, numbers, program, recording, say, screens, signs
+from btx import at_end, canvas, files, looks, messages, numbers, program, recording, say, screens, signs
 
 SUMMARY = "the page in colour in the terminal"
 # So many looks are kept with what shows them: a line may bring any number of patterns.
@@ -107,7 +107,8 @@ class Painter:
 
     def style(self, look: looks.Look, fore: str, back: str) -> str:
         words = [colour_of(fore, FORE, self.depth), colour_of(back, BACK, self.depth)] if self.depth else []
-        words += [UNDERLINED] * look.lined + [BLINKING] * (look.flash != "S")
+        is_hidden = look.concealed and not self.revealed
+        words += [UNDERLINED] * (look.lined and not is_hidden) + [BLINKING] * (look.flash != "S")
         return "\x1b[" + ";".join(["0", *words]) + "m"
 
     def cell(self, look: looks.Look) -> tuple[str, str]:
@@ -156,7 +157,7 @@ class PicturePainter:
         self.cells = cells
         yield self.picture()
         # The picture of kitty leaves the cursor where it is, that of sixel moves it below itself.
-        yield "\n" * (rows if self.protocol == screens.KITTY else 1)
+        yield "\n" * (looks.ROWS if self.protocol == screens.KITTY else 1)
 
     def begun(self) -> str:
         return HIDE + CLEAR + HOME + self.picture()
@@ -190,12 +191,12 @@ def repaint(painter: Painter, changed: looks.Cells) -> str:
 
 
 def size_of(stream: TextIO) -> Size | None:
-    """The rows and columns of the terminal, or None where there is none."""
+    """The rows and columns of the terminal, or None where there is none, or one that doesn't know them."""
     try:
         size = os.get_terminal_size(stream.fileno())
     except OSError:
         return None
-    return size.lines, size.columns
+    return (size.lines, size.columns) if size.lines and size.columns else None
 
 
 def too_small(size: Size | None) -> str | None:
@@ -242,7 +243,9 @@ def show(path: program.Runner, page: str, options: argparse.Namespace) -> int:
         clock, moments = recording.clock_of(options), looks.moments_of(program.text_put(path, "changes", page))
         play(painter, moments, os.path.getsize(page), clock, sys.stdout)
     else:
-        cells = looks.cells_of(program.text_put(path, "cells", page))
+        # A picture shows the rows below the format too.
+        is_picture = isinstance(painter, PicturePainter)
+        cells = at_end.cells(path, page) if is_picture else looks.cells_of(program.text_put(path, "cells", page))
         rows = program.text_put(path, "show", page).count("\n")
         sys.stdout.writelines(painter.still(cells, rows))
         sys.stdout.flush()

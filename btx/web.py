@@ -1,5 +1,6 @@
 """The line of a guest as a WebSocket, by the library of Python that Debian has; and the viewer for a browser that asks the same port for a
 page."""
+import asyncio
 import http
 import os
 from collections.abc import Awaitable, Callable, Mapping
@@ -10,10 +11,12 @@ from btx import debian, viewer
 
 NAME, PACKAGE = "websockets", "python3-websockets"
 MOST_MESSAGE = 1024
-# The names by which this machine alone reaches itself.
 # A status, headers and a body.
 Answer = tuple[http.HTTPStatus, list[tuple[str, str]], bytes]
+# The names by which this machine alone reaches itself.
 HERE = ("127.0.0.1", "localhost", "::1", "[::1]")
+# The port that browsers leave out where they name a document's origin.
+USUAL_PORT = 80
 ABSENT = "This port is a WebSocket. There is no viewer for it, since {}\n"
 
 
@@ -26,12 +29,15 @@ class Socket:
 
     def __init__(self, connection: Any) -> None:
         self.connection, self.closed = connection, library("websockets.exceptions").ConnectionClosed
+        self.transport: asyncio.WriteTransport = connection.transport
         self.name = "{}:{}".format(*connection.remote_address[:2])
 
     async def read(self) -> bytes:
-        """What the guest sends; empty bytes at the end."""
+        """What the guest sends; empty bytes at the end. A message that is empty is none."""
+        data: bytes | str = b""
         try:
-            data: bytes | str = await self.connection.recv()
+            while not data:
+                data = await self.connection.recv()
         except self.closed:
             return b""
         return data if isinstance(data, bytes) else data.encode("utf-8")
@@ -56,7 +62,7 @@ def document() -> bytes | None:
 
 def shown_at(near: str) -> str:
     """Where a browser shows the line, or why it can't."""
-    return f"a browser shows it at http://{near}/" if document() else f"no browser shows it, since {viewer.missing()}"
+    return f"a browser shows it at http://{near}/, by Watch" if document() else f"no browser shows it, since {viewer.missing()}"
 
 
 def page() -> Answer:
@@ -68,9 +74,11 @@ def page() -> Answer:
 
 
 def is_open_to(headers: Mapping[str, str], address: str, port: int) -> bool:
-    """Whether a document may open the line: a file of a machine, and what this port serves itself. Other websites may not. Of the names
-    that this machine has in a network only who asks knows."""
-    origin, own = headers.get("Origin", "null"), [f"http://{name}:{port}" for name in (*HERE, address)]
+    """Whether a document may open the line: a file of a machine, and what this port serves itself. Other websites may not, but for what
+    they show in a frame without an origin, which can't be told from a file. Of the names that this machine has in a network only who asks
+    knows."""
+    ends = (f":{port}", "") if port == USUAL_PORT else (f":{port}",)
+    origin, own = headers.get("Origin", "null"), [f"http://{name}{end}" for name in (*HERE, address) for end in ends]
     if address not in HERE:
         own.append(f"http://{headers.get('Host')}")
     return origin in ("null", "file://", *own)

@@ -6,6 +6,7 @@ import hashlib
 import io
 import json
 import os
+import re
 import shutil
 import threading
 import urllib.parse
@@ -25,12 +26,20 @@ KINDS = {"pages": ".html", "pictures": ".png", "made": ".json"}
 # All folders of a website, and the file of the viewer that is written first: by it a website is known, be it only begun.
 FOLDERS = (*KINDS, "viewer", "entries", "words", "walk")
 SITE = "site.js"
+# What is written last, of all pages; by these a whole website is known that has lost that file.
+LISTS = INDEX, TABLE, REPORT = "index.html", "report.csv", "report.json"
 # Of a file's 255 bytes the endings take some.
 LONGEST = 255 - len(".json.part")
 # A page may have a name under which no file of an archive can stand.
-NO_NAMES = (errno.ENAMETOOLONG, errno.EISDIR, errno.ENOTDIR, errno.EEXIST)
+NO_NAMES = {
+    errno.ENAMETOOLONG: "its name is too long for a file of an archive",
+    **dict.fromkeys((errno.EINVAL, errno.EILSEQ), "its name is none for the file system of the website"),
+    **dict.fromkeys((errno.EISDIR, errno.ENOTDIR, errno.EEXIST), "another page has its place"),
+}
 # Pages are made by several threads: none takes an empty folder away in which another begins a file.
 BEGINNING = threading.Lock()
+# The places in the viewer's document for what is each page's own.
+PLACE = re.compile(r"\{(up|part|address|name|title)\}")
 # The sizes of a page's files by their kinds.
 Sizes = dict[str, int]
 POLICY = "default-src 'none'; img-src blob: data:; style-src 'self'; script-src 'self'"
@@ -54,11 +63,13 @@ def size_of(path: str) -> int | None:
 
 
 def is_foreign(out: str) -> bool:
-    """Whether there is something in a folder, and it is no website of an archive, be it only begun."""
+    """Whether there is something in a folder, and it is no website of an archive, be it only begun or without its viewer."""
     own = os.path.join(out, "viewer")
     if not os.path.isdir(out) or size_of(os.path.join(own, SITE)):
         return False
     here = os.listdir(out)
+    if {"pages", "made"} <= set(here) and (set(LISTS) <= set(here) or set(here) <= {*LISTS, *FOLDERS}):
+        return False
     begun = os.listdir(own) if here == ["viewer"] and os.path.isdir(own) else here
     return not set(begun) <= {f"{SITE}.part"}
 
@@ -97,7 +108,8 @@ def halves(decodes: bool) -> tuple[str, str]:
         'href="style.css"': 'href="{up}viewer/style.css"',
         "<h1>Tamligub</h1>": '<h1><a href="{up}index.html">Archive</a></h1>',
         '<title data-word="viewer">Tamligub</title>': "<title>{title}</title>",
-        "</header>": '</header>\n<nav id="walk" data-up="{up}" data-part="{part}" data-address="{address}"></nav>',
+        "</header>": '</header>\n<nav id="walk" data-up="{up}" data-part="{part}" data-address="{address}" data-path="{name}">'
+        "</nav>",
         html_file.MODULE: "".join(f'<script src="{{up}}viewer/{name}"></script>\n' for name in scripts),
     }
     document = html_file.with_policy(html_file.text_of("index.html"), POLICY + (COMPILES if decodes else ""))
@@ -137,13 +149,16 @@ class Website:
     def path(self, kind: str, name: str) -> str:
         return os.path.join(self.out, kind, name + KINDS[kind])
 
-    def names(self) -> Iterator[str]:
-        """The names of all pages of which something was made and whole."""
-        top = os.path.join(self.out, "made")
+    def names(self) -> set[str]:
+        """The names of all pages of which something was made, be it not to its end."""
+        return {name for kind in KINDS for name in self.names_of(kind)}
+
+    def names_of(self, kind: str) -> Iterator[str]:
+        top = os.path.join(self.out, kind)
         for place, _, files in os.walk(top):
             for file in files:
                 name, ending = os.path.splitext(os.path.relpath(os.path.join(place, file), top))
-                if ending == KINDS["made"]:
+                if ending == KINDS[kind]:
                     yield name
 
     def noted(self, name: str) -> tuple[making.Facts | None, Sizes]:
@@ -184,10 +199,9 @@ class Website:
     def document(self, name: str, facts: making.Facts, parts: making.Parts) -> str:
         """The viewer with a page; its style and scripts are those of the whole archive."""
         shown = html_file.shown_name(name)
-        places = {"up": "../" * (name.count("/") + 1), "part": part_of(name), "address": address(name), "title": facts.title or shown}
-        head, tail = self.halves["deflated" not in parts]
-        for place, value in places.items():
-            head, tail = (text.replace("{" + place + "}", escape(value)) for text in (head, tail))
+        up = "../" * (name.count("/") + 1)
+        values = {"up": up, "part": part_of(name), "address": address(name), "name": shown, "title": facts.title or shown}
+        head, tail = (PLACE.sub(lambda found: escape(values[found[1]]), text) for text in self.halves["deflated" not in parts])
         data = {"name": shown, **{part: parts[part] for part in ("deflated", "check", "page") if part in parts}}
         return f'{head}<script type="application/json" id="pages">{html_file.data_of([data])}</script>{tail}'
 
@@ -214,6 +228,5 @@ class Website:
         except OSError as fault:
             if fault.errno not in NO_NAMES:
                 raise
-            why = "its name is too long for a file of an archive" if fault.errno == errno.ENAMETOOLONG else "another page has its place"
-            return making.Facts(facts.bytes, Status.NO_ROOM, why)
+            return making.Facts(facts.bytes, Status.NO_ROOM, NO_NAMES[fault.errno])
         return facts

@@ -15,6 +15,8 @@ HOST = re.compile(r"(?:\[([^\]]+)\]|([^:]+)):(\d{1,5})")
 MOST_PORT = 65535
 # How long a host is waited for until it answers, in seconds.
 ANSWERS_IN = 20
+# What the system says of a name that no host has. It isn't asked for one with an empty part, or with one of more than 63 letters.
+UNKNOWN = (socket.EAI_NONAME, "Name or service not known")
 
 
 # The speeds that the system's terminals know, in bits a second; 0 would hang up.
@@ -61,6 +63,8 @@ class Name:
         """Opens the line; why that fails is raised with its name."""
         try:
             return self.opened()
+        except UnicodeError:
+            raise OSError(*UNKNOWN, self.text) from None
         except OSError as fault:
             raise OSError(fault.errno, fault.strerror or str(fault), self.text) from None
 
@@ -122,6 +126,8 @@ class Serial:
     def set(self, speed: int) -> None:
         tty.setraw(self.file, termios.TCSANOW)
         words = termios.tcgetattr(self.file)
+        # Bytes are neither changed nor left out as they come and go; before Python 3.12 some of these flags would stay.
+        words[0] = words[1] = 0
         words[2] |= termios.CLOCAL | termios.CREAD
         words[2] &= ~(termios.CSTOPB | getattr(termios, "CRTSCTS", 0))
         words[4] = words[5] = speed

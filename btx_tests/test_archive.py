@@ -312,8 +312,20 @@ class Archive(archives.Case):
         folder = self.path("bin")
         os.mkdir(folder)
         os.symlink(sys.executable, os.path.join(folder, "python3"))
-        done = self.archive("--jobs-by", "parallel", status=127, env=stand.environment(PATH=folder))
-        self.assertIn(b"GNU parallel isn't on this machine (Debian: apt-get install parallel)", done.stderr)
+        said = b"GNU parallel isn't on this machine (Debian: apt-get install parallel)"
+        self.assertIn(said, self.archive("--jobs-by", "parallel", status=127, env=stand.environment(PATH=folder)).stderr)
+        os.chmod(self.written("bin/parallel", b"#!/bin/sh\necho \"parallel: invalid option -- '-'\" >&2\nexit 1\n"), 0o755)
+        self.assertIn(said, self.archive("--jobs-by", "parallel", status=127, env=stand.environment(PATH=folder)).stderr)
+
+    def test_what_else_a_machine_says_is_passed_over(self):
+        """A greeting, the front of a result, and JSON that is none."""
+        self.needs("parallel")
+        self.small("title", "boat")
+        own = shlex.quote(os.path.join(stand.ROOT, "bin", "btx"))
+        called = self.written("called", f"#!/bin/sh\nprintf 'Gr\\374\\337e\\n{{\"number\": 1, \"pa\\n7\\n'\nexec {own} \"$@\"\n".encode())
+        os.chmod(called, 0o755)
+        self.archive("--jobs-by", "parallel", "--remote", called)
+        self.assertEqual({row["status"] for row in self.report().values()}, {"0"})
 
     def test_pages_that_no_machine_made_are_told(self):
         self.needs("parallel")

@@ -1,5 +1,6 @@
 """What an archive takes of a folder, what it says of the rest, and what it does with what is gone."""
 import csv
+import errno
 import hashlib
 import io
 import json
@@ -16,6 +17,7 @@ from archives import data_in, entries_in
 import stand
 
 from btx import making, progress, website
+from btx.statuses import Status
 
 NO_UTF_8 = b"stra\xdfe.btx"
 SHOWN = "stra\\xdfe.btx"
@@ -55,6 +57,29 @@ class Left(archives.Case):
         self.assertIn(b"2 pages no longer in the collection: removed", self.archive().stdout)
         self.assertEqual(self.made(), sorted(f"{kind}/{name}.btx" for kind in ("pages", "pictures", "made") for name in ("boat", "title")))
         self.assertEqual(sorted(self.report()), ["boat.btx", "title.btx"])
+
+    def test_what_was_made_of_half_a_page_goes_too(self):
+        """As where the archive was stopped in it."""
+        self.archive()
+        os.remove(os.path.join(self.out, "made", "form.btx.json"))
+        os.remove(os.path.join(self.source, "form.btx"))
+        self.archive()
+        self.assertNotIn("pages/form.btx", self.made())
+        self.assertNotIn("pictures/form.btx", self.made())
+
+    def test_what_is_kept_beside_the_parts_stays_where_it_cannot_go(self):
+        """A folder, as some servers keep one in each."""
+        self.archive()
+        for name in ("entries", "words", "walk"):
+            os.mkdir(os.path.join(self.out, name, "@eaDir"))
+        self.assertIn(b"; 3 were there", self.archive().stdout)
+
+    def test_a_name_that_the_file_system_of_the_website_has_not(self):
+        site = website.Website(self.out)
+        for number in (errno.EINVAL, errno.EILSEQ):
+            with unittest.mock.patch.object(website, "write", side_effect=OSError(number, os.strerror(number))):
+                facts = site.add("was?.btx", making.Facts(3, Status.DONE, "read"), {"deflated": "", "check": "", "page": "", "cells": ""})
+            self.assertEqual((facts.status, facts.bytes, facts.meaning), (5, 3, "its name is none for the file system of the website"))
 
     def test_what_left_is_kept_and_listed(self):
         self.archive()
@@ -169,6 +194,18 @@ class Taken(archives.Case):
         self.assertIn(b"; 1 was there", self.archive().stdout)
         with open(os.path.join(self.out, "robots.txt"), "rb") as file:
             self.assertEqual(file.read(), b"mine")
+
+    def test_a_website_that_lost_its_viewer_has_it_again(self):
+        self.add("a.btx")
+        self.archive()
+        shutil.rmtree(os.path.join(self.out, "viewer"))
+        self.assertIn(b"; 1 was there", self.archive().stdout)
+        self.assertIn("site.js", os.listdir(os.path.join(self.out, "viewer")))
+        shutil.rmtree(os.path.join(self.out, "viewer"))
+        os.remove(os.path.join(self.out, "report.csv"))
+        self.assertFalse(website.is_foreign(self.out))
+        self.written("out/mine", b"")
+        self.assertTrue(website.is_foreign(self.out))
 
     def test_a_website_that_was_only_begun_goes_on(self):
         """Wherever its beginning was stopped."""
@@ -291,6 +328,13 @@ class Terminal(io.StringIO):
 
 class Going(archives.Case):
     """What is told while it goes."""
+
+    def test_it_goes_on_where_nothing_can_be_said(self):
+        """As where standard error is closed."""
+        with unittest.mock.patch.object(progress.sys, "stderr", None):
+            line = progress.Progress(1)
+            line.step(making.Facts(1, Status.DONE, "read"))
+        self.assertEqual(line.done, 1)
 
     def test_the_time_left_is_hours_and_minutes(self):
         for seconds, said in ((1, "1 min"), (61, "2 min"), (3600, "1 h 00 min"), (7384, "2 h 04 min"), (360000, "100 h 00 min")):

@@ -35,6 +35,12 @@ class Diff(stand.Case):
             self.assertEqual((done.returncode, done.stderr), (1, b""))
             self.assertEqual(done.stdout.decode().splitlines(), self.lines(*pair))
 
+    def test_rows_below_a_format_count_as_they_are_shown(self):
+        whole = self.written("whole", b"\x1f\x2d\x41\x70\x1b\x23\x20\x54A")
+        short = self.written("short", b"\x1f\x2d\x42\x70\x1b\x23\x20\x54A")
+        done = stand.btx("diff", whole, short)
+        self.assertEqual((done.returncode, done.stdout), (0, b""))
+
     def test_both_are_shown_beside_each_other_in_colour(self):
         done = stand.btx("diff", self.one, self.other)
         lines = done.stdout.decode().splitlines()

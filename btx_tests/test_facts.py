@@ -117,7 +117,7 @@ class Statuses(stand.Case):
         self.assertRegex(types, r"/\*\* " + ", ".join(f"{status} [a-z ]+" for status in sorted(Status)) + r"\. \*/")
 
     def test_the_viewer_knows_them_by_the_same_numbers(self):
-        script = text_of("view", "decoding.js")
+        script = text_of("view", "decoding.js") + text_of("view", "asking.js")
         self.assertIn(f"const [UNREAD, NO_MEMORY] = [{Status.UNREAD}, {Status.NO_MEMORY}];", script)
         ends = [int(number) for number in re.search(r"const ENDS = \[(.*?)\];", script)[1].split(", ")]
         self.assertLessEqual(set(ends), set(Status) - set(READ))

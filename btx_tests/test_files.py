@@ -48,6 +48,15 @@ class Files(stand.Case):
             self.assertEqual(done.stdout, stand.btx(word, self.written("rest", b"B\x9b1\rC")).stdout)
             self.assertEqual((done.returncode, done.stderr), (1, b"btx: some items of the page are refused\n"))
 
+    def test_standard_input_has_a_name_of_the_system_too(self):
+        """Whether a file or a pipe is behind it."""
+        for name in ("/dev/stdin", "/dev/fd/0", "/proc/self/fd/0"):
+            for word in ("terminal", "show", "svg"):
+                with open(stand.page("title"), "rb") as file:
+                    done = stand.btx(word, name, stdin=file)
+                self.assertEqual(done.returncode, 0)
+                self.assertIn(b"Guten Tag" if word != "terminal" else stand.btx(word, stand.page("title")).stdout, done.stdout)
+
     def test_a_script_comes_over_standard_input(self):
         for word in ("edit", "trace"):
             want = stand.put(word, stand.page("title"), self.written("script", b"at 1 1\nraw 0F194875\n"))
@@ -152,6 +161,10 @@ class Files(stand.Case):
                 self.assertEqual((done.returncode, done.stdout, done.stderr.decode()), (4, b"", f"btx: {word}: {out}: {said}\n"))
         done = stand.btx("show", page, "-o")
         self.assertEqual((done.returncode, done.stderr), (2, b"btx: show: -o takes a FILE after it\nusage: btx show PAGE [-o FILE]\n"))
+        for word in ("html", "svg", "cast", "archive", "cut"):
+            done = stand.btx(word, page, "-o", "")
+            self.assertEqual((done.returncode, done.stderr.splitlines()[-1]),
+                             (2, f"btx {word}: error: -o takes a name after it, and this one is empty".encode()))
 
     def test_a_page_alone_is_shown(self):
         want = stand.btx("terminal", stand.page("title")).stdout

@@ -12,7 +12,7 @@ import time
 import lines
 import stand
 
-from btx import guest as guests
+from btx import guest as guests, web
 
 # Full defaults with the parallel set, as docs/PROFILE.md has them: as on a decoder that was just opened.
 AT_FIRST = b"\x1f\x2f\x42"
@@ -86,6 +86,15 @@ class HostCase(stand.Case):
     def page(self, number):
         return AT_FIRST + self.pages[number]
 
+    def comes_to(self, guest, data):
+        """Takes what has come, and answers whether it ends with some bytes."""
+        watch = selectors.DefaultSelector()
+        watch.register(guest.socket, selectors.EVENT_READ)
+        while watch.select(0):
+            guest.came += guest.socket.recv(65536)
+        watch.close()
+        return guest.came.endswith(data)
+
     def show(self, data):
         return stand.put("show", self.written("came", data)).decode().split("\n")[:-1]
 
@@ -99,15 +108,6 @@ class Requests(HostCase):
             guest.send(request)
             self.assertTrue(lines.until(lambda: self.comes_to(guest, self.page(number))), request)
             self.assertEqual(lines.cells_of(self.written("came", guest.came)), lines.cells_of(self.path("pages", number + ".btx")))
-
-    def comes_to(self, guest, data):
-        """Takes what has come, and answers whether it ends with some bytes."""
-        watch = selectors.DefaultSelector()
-        watch.register(guest.socket, selectors.EVENT_READ)
-        while watch.select(0):
-            guest.came += guest.socket.recv(65536)
-        watch.close()
-        return guest.came.endswith(data)
 
     def test_what_is_typed_stands_in_the_last_row_and_leaves_the_rest(self):
         _, port = self.host("--bits", "0")
@@ -176,8 +176,13 @@ class Requests(HostCase):
             ):
                 done = stand.btx("host", *words)
                 self.assertEqual((done.returncode, said in done.stderr.decode()), (4, True), done.stderr)
+        for host in ("a..b", f"{64 * 'a'}.example"):
+            done = stand.btx("host", self.path("pages"), "--port", "0", "--bind", host)
+            self.assertEqual((done.returncode, done.stderr), (4, b"btx: host: name or service not known\n"))
         for line in ("--port x", "--port 65536", "--port 0 --bits -1", "--port 0 --patience 0", ""):
             self.assertEqual(stand.btx("host", self.path("pages"), *line.split()).returncode, 2)
+        done = stand.btx("host", self.path("pages"), "--port", "0", "--bind", "")
+        self.assertEqual((done.returncode, done.stderr.endswith(b"argument --bind: the address is empty\n")), (2, True), done.stderr)
 
 
 class Guests(HostCase):
@@ -225,6 +230,7 @@ class Guests(HostCase):
         """Who sends nothing, who sends nonsense, and who takes nothing."""
         self.written("pages/3.btx", b"\x0c" + b"A" * 2**23)
         run, port = self.host("--bits", "0", "--patience", "4")
+        before = self.sockets(run)
         silent, babbling, deaf = (self.guest(port) for _ in range(3))
         deaf.send(b"*3#")
         babbling.send(b"nonsense" * 100)
@@ -234,6 +240,31 @@ class Guests(HostCase):
         said = "".join(run.stderr.readline().decode() for _ in range(3))
         self.assertEqual(said.count("is dropped: it asked for no page within 4 seconds"), 2, said)
         self.assertEqual(said.count("is dropped: it took nothing for 4 seconds"), 1, said)
+        # No line is left open, that of who still takes nothing neither.
+        self.assertTrue(lines.until(lambda: self.sockets(run) == before))
+
+    def sockets(self, run):
+        """The sockets that a run has open."""
+        folder = f"/proc/{run.pid}/fd"
+        return {name for name in os.listdir(folder) if os.readlink(os.path.join(folder, name)).startswith("socket:")}
+
+    def test_a_guest_that_takes_slowly_is_not_dropped(self):
+        """One who takes some bytes again and again, for longer than patience, has all of them, and can ask for more."""
+        patience = 4
+        self.written("pages/3.btx", b"A" * 2**24)
+        _, port = self.host("--bits", "0", "--patience", str(patience))
+        guest = self.guest(port)
+        guest.socket.setsockopt(socket.SOL_SOCKET, socket.SO_RCVBUF, 2**16)
+        guest.send(b"*3#")
+        count, begun = 0, time.monotonic()
+        while count < 2**24:
+            piece = guest.socket.recv(2**17)
+            self.assertTrue(piece, f"dropped after {time.monotonic() - begun:.1f} seconds with {count:,} bytes")
+            count += len(piece)
+            time.sleep(len(piece) / 2**21)
+        self.assertGreater(time.monotonic() - begun, patience)
+        guest.send(b"*2#")
+        self.assertTrue(lines.until(lambda: self.comes_to(guest, self.page("2"))))
 
     def test_a_guest_that_leaves_while_a_page_goes_out_is_no_fault(self):
         self.written("pages/3.btx", b"\x0c" + b"A" * 2**23)
@@ -333,7 +364,7 @@ class Web(HostCase):
 
     def test_it_says_where_a_browser_shows_it(self):
         _, port = self.host()
-        self.assertTrue(self.said[-1].endswith(f"; a browser shows it at http://127.0.0.1:{port}/\n"), self.said)
+        self.assertTrue(self.said[-1].endswith(f"; a browser shows it at http://127.0.0.1:{port}/, by Watch\n"), self.said)
 
     def test_other_websites_may_not_open_it(self):
         _, port = self.host()
@@ -342,6 +373,28 @@ class Web(HostCase):
             self.assertEqual(self.asked(port, Origin=origin, **upgrade)[0], status, origin)
         self.assertEqual(self.asked(port, Host=f"example.org:{port}", Origin=f"http://example.org:{port}", **upgrade)[0], 403)
         self.assertEqual(self.asked(port, **upgrade)[0], 101)
+
+    def test_at_the_usual_port_a_browser_names_none(self):
+        for origin, port, may in (
+            ("http://127.0.0.1", 80, True), ("http://localhost", 80, True), ("http://[::1]", 80, True), ("http://localhost:80", 80, True),
+            ("http://localhost", 8080, False), ("http://example.org", 80, False), ("http://localhost:81", 80, False),
+        ):
+            self.assertEqual(web.is_open_to({"Origin": origin}, "127.0.0.1", port), may, (origin, port))
+        self.assertTrue(web.is_open_to({"Origin": "http://127.0.0.2"}, "127.0.0.2", 80))
+
+    def test_an_empty_message_does_not_end_the_line(self):
+        """As of an input field that has no signs."""
+        _, port = self.host("--bits", "0")
+        guest = self.guest(port)
+        guest.send(b"GET / HTTP/1.1\r\nHost: localhost\r\nUpgrade: websocket\r\nConnection: Upgrade\r\n"
+                   b"Sec-WebSocket-Key: dGhlIHNhbXBsZSBub25jZQ==\r\nSec-WebSocket-Version: 13\r\n\r\n")
+        # By RFC 6455 a whole message of text is 81, of bytes 82; its length with the bit of a mask, and a mask, here of zeros.
+        for kind, typed in ((b"\x82", b""), (b"\x81", b""), (b"\x82", b"*2#")):
+            guest.send(kind + bytes([0x80 + len(typed)]) + bytes(4) + typed)
+        while self.page("2") not in guest.came:
+            piece = guest.socket.recv(65536)
+            self.assertTrue(piece, guest.came[-100:])
+            guest.came += piece
 
     def test_other_machines_may_where_it_is_bound_so(self):
         _, port = self.host("--bind", "127.0.0.2")

@@ -1,17 +1,24 @@
 """A line in the terminal, over real sockets: at each stop it shows what the program says of the bytes that have come, and the terminal is
 as it was, however the line ends."""
+import contextlib
+import errno
 import functools
 import itertools
 import os
 import pty
+import resource
+import select
 import signal
 import termios
+import threading
 import time
+import tty
+from unittest import mock
 
 import lines
 import stand
 
-from btx import line, live, looks
+from btx import glass, line, live, looks, terminal, wire
 
 # Positions, colours, a double size, mosaics, a pattern and its sign, and a colour defined anew: units of one byte and of many.
 SMALL = b"\x1f\x43\x42\x81Rot\x8dHoch\x8c \x0e\x7f\x0f\x1f\x23\x21\x30\x7f\x6a\x1b\x28\x20\x40\x21\x1b\x28\x40\x1f\x26\x30\x31\x55\x6a."
@@ -97,6 +104,16 @@ class Cells(lines.Case):
                 want = {place: look._replace(flash="S") for place, look in told.items() if look != looks.BLANK}
                 self.assertEqual({place: look for place, look in shown.cells.items() if look != looks.BLANK}, want, turn)
 
+    def test_the_page_that_stays_has_what_flashes(self):
+        """In whichever phase the line ended."""
+        with open(stand.page("flashing"), "rb") as file, live.Live() as decoder:
+            data, shown = file.read(), line.Shown(decoder)
+            shown.feed(data)
+            shown.finish()
+            for turn in range(7):
+                self.assertEqual({place: look for place, look in shown.page().items() if look != looks.BLANK}, self.wanted(data), turn)
+                shown.turn()
+
     def test_the_cursor_stands_at_the_position(self):
         host = self.host(lambda host: host.send(b"\x1f\x45\x48AB"))
         board, _ = lines.watched(host.name)
@@ -149,6 +166,16 @@ class Words(lines.Case):
         self.ends([name], 4, f"btx: line: {name}: connection refused\n")
         self.ends(["serial:nowhere:1200"], 4, "btx: line: serial:nowhere:1200: no such file or directory\n", cwd=self.folder)
 
+    def test_a_host_that_no_name_can_name(self):
+        """A part of a name has a letter at least, and 63 at most."""
+        for host in ("a..b", f"{64 * 'a'}.example", "."):
+            self.ends([f"{host}:1"], 4, f"btx: line: {host}:1: name or service not known\n")
+
+    def test_a_patience_that_the_system_cannot_wait_for_at_once(self):
+        for patience in ("2147484", "1e300"):
+            host = self.host(lambda host: host.send(b"A"))
+            self.ends([host.name, "--patience", patience], 0, f"btx: line: {host.name}: the line has ended, after 1 byte")
+
     def test_what_is_no_line(self):
         for words in ("host", "host:", "host:70000", "serial:/dev/null", "serial:/dev/null:fast", ""):
             self.ends([words], 2, "is no line: HOST:PORT, serial:DEVICE:BITS")
@@ -187,6 +214,53 @@ class Words(lines.Case):
         self.assertEqual(sum(length for _, length in times), 6)
         self.assertEqual([when for when, _ in times], sorted(when for when, _ in times))
         self.assertEqual(sum(length == 0 for _, length in times), 3)
+
+    def test_a_recording_that_cannot_be_written_ends_the_line(self):
+        """As on a full disk: here no file may have more than 1,000 bytes. What came until then stays."""
+        def act(host):
+            host.send(b"A" * 900)
+            lines.until(lambda: os.path.exists(path) and os.path.getsize(path) == 900)
+            host.send(b"B" * 900)
+            host.waits_for_the_end()
+
+        host, path = self.host(act), self.path("kept")
+        limit = functools.partial(resource.setrlimit, resource.RLIMIT_FSIZE, (1000, 1000))
+        self.ends([host.name, "--record", path], 4, f"btx: line: {host.name}: {path}: file too large, after 900 bytes\n", preexec_fn=limit)
+        with open(path, "rb") as file:
+            self.assertEqual(file.read(), b"A" * 900 + b"B" * 100)
+
+    def test_names_that_are_empty(self):
+        for option, said in (("--record", "the name of the recording is empty"), ("--keys", "the name of the table is empty")):
+            self.ends(["-", option, ""], 2, f"argument {option}: {said}\n")
+
+    def test_keys_of_a_pipe_are_sent_however_many_there_are(self):
+        data = b"x" * 300_000
+        host = self.host(lambda host: host.listens(len(data)))
+        self.ends([host.name], 0, "the line has ended, after 0 bytes\n", input=data, stdin=None)
+        self.assertEqual(host.came, data)
+
+    def test_keys_wait_for_a_line_that_takes_none(self):
+        master, slave = pty.openpty()
+        for one in (master, slave):
+            self.addCleanup(os.close, one)
+        data = b"x" * 300_000
+        with open(self.written("typed", data), "rb") as file:
+            run = stand.begun("line", f"serial:{os.ttyname(slave)}:38400", stdin=file)
+        self.assertTrue(lines.until(lambda: not termios.tcgetattr(slave)[3] & termios.ICANON))
+        time.sleep(0.5)
+        found = b""
+        while len(found) < len(data) and select.select([master], [], [], 60)[0]:
+            found += os.read(master, 65536)
+        run.terminate()
+        run.communicate(timeout=stand.LONG)
+        self.assertEqual(found, data)
+
+    def test_standard_input_that_is_closed(self):
+        """What the host sends is no key then."""
+        host = self.host(lambda host: host.send(b"A\x03BC"))
+        closed = functools.partial(os.close, 0)
+        self.ends([host.name], 0, "the line has ended, after 4 bytes\n", preexec_fn=closed)
+        self.ends(["-"], 4, "btx: line: -: that is standard input, and it is closed\n", preexec_fn=closed)
 
     def test_a_recording_is_never_written_over(self):
         path = self.written("kept", b"old")
@@ -237,6 +311,97 @@ class Names(stand.Case):
     def test_a_table_whose_only_key_that_leaves_never_comes(self):
         with self.assertRaisesRegex(OSError, "line 2: ctrl-m comes as return"):
             lines.keyboard.table_in("ctrl-c nothing\nctrl-m leave\n", "table")
+
+
+class Pieces(stand.Case):
+    """Sequences of keys, whole and in pieces, which are read without the library."""
+
+    TABLE = lines.keyboard.table_in("escape 1B\nctrl-c leave\n" + "".join(f"f{one} {0xF0 + one:X}\n" for one in range(1, 13)), "table")
+
+    def test_a_key_may_come_in_pieces(self):
+        """F1 to F5 of the console of Linux and of xterm, and arrows of both kinds; a sign is itself before and after each."""
+        for typed, sent in (
+            ("\x1b[[A", b"\xf1"), ("\x1b[[B", b"\xf2"), ("\x1b[[C", b"\xf3"), ("\x1b[[D", b"\xf4"), ("\x1b[[E", b"\xf5"),
+            ("\x1bOP", b"\xf1"), ("\x1b[15~", b"\xf5"), ("\x1b[A", b"\x0b"), ("\x1bOB", b"\x0a"), ("\x1b[24~", b"\xfc"),
+        ):
+            whole = f"a{typed}b".encode()
+            for at in range(len(whole) + 1):
+                board = lines.keyboard.Keyboard(self.TABLE)
+                found = board.sent(whole[:at]) + board.sent(whole[at:])
+                self.assertEqual((found, board.let_go()), ([b"a", sent, b"b"], []), (typed, at))
+
+    def test_keys_that_send_nothing(self):
+        """Those of rxvt with shift, Alt with a sign, an arrow or return, a key of the keypad, and one that isn't known."""
+        for typed in (
+            "\x1b[7$", "\x1b[3^", "\x1b[8@", "\x1bx", "\x1bä", "\x1b#", "\x1b\r", "\x1b\x1b[A", "\x1b\x1bOA", "\x1bOj", "\x1bO5A",
+            "\x1b[1;5P", "\x1b[" + "9" * 5000 + "~",
+        ):
+            whole = f"a{typed}b".encode()
+            self.assertEqual(lines.keys_sent(whole, self.TABLE), [b"a", b"b"], typed)
+            board = lines.keyboard.Keyboard(self.TABLE)
+            if len(whole) < 20:
+                self.assertEqual([sent for byte in whole for sent in board.sent(bytes([byte]))], [b"a", b"b"], typed)
+
+    def test_escape_is_a_key_where_nothing_follows(self):
+        escape = b"\x1b"
+        for typed, at_once, later in (
+            ("\x1b", [], [escape]), ("\x1b\x1b\x1b", [escape], [escape, escape]), ("a\x1b[", [b"a"], []), ("\x1bO", [], []),
+        ):
+            board = lines.keyboard.Keyboard(self.TABLE)
+            self.assertEqual((board.sent(typed.encode()), board.let_go(), board.let_go()), (at_once, later, []), typed)
+            self.assertEqual(board.sent(b"A\x03"), [b"A", lines.keyboard.LEAVE])
+
+
+class Serial(stand.Case):
+    """The flags of a serial device, which is opened without the library."""
+
+    def test_bytes_come_and_go_as_they_are(self):
+        """Whatever flags a program before it has left."""
+        master, slave = pty.openpty()
+        for file in (master, slave):
+            self.addCleanup(os.close, file)
+        words = termios.tcgetattr(slave)
+        words[0] |= termios.IGNCR | termios.INLCR | termios.PARMRK | termios.IXOFF | termios.IGNBRK
+        words[1] |= termios.OPOST | termios.ONLCR | termios.OCRNL
+        termios.tcsetattr(slave, termios.TCSANOW, words)
+        before = termios.tcgetattr(slave)
+        with contextlib.closing(wire.Name(f"serial:{os.ttyname(slave)}:1200").open()) as one:
+            self.assertEqual(termios.tcgetattr(slave)[:2], [0, 0])
+            every = bytes(range(256))
+            os.write(master, every)
+            self.assertTrue(lines.until(lambda: select.select([one], [], [], 0)[0]))
+            self.assertEqual(one.read(), every)
+            self.assertEqual((one.send(every), os.read(master, 1000)), (256, every))
+        self.assertEqual(termios.tcgetattr(slave), before)
+
+
+class Glass(stand.Case):
+    """The terminal, without the library."""
+
+    def test_a_call_that_a_signal_ends_is_made_again(self):
+        """As where the job comes to the foreground: the system ends a call for the terminal then."""
+        master, slave = pty.openpty()
+        for file in (master, slave):
+            self.addCleanup(os.close, file)
+        before, calls = termios.tcgetattr(slave), []
+
+        def ended(call):
+            def made(*things):
+                calls.append(call)
+                if calls.count(call) == 1:
+                    raise termios.error(errno.EINTR, os.strerror(errno.EINTR))
+                return call(*things)
+            return made
+
+        with open(os.devnull, "w", encoding="utf-8") as stream, contextlib.ExitStack() as stack:
+            one = glass.Glass(terminal.Painter(0, False), stream, slave)
+            for module, name in ((termios, "tcgetattr"), (termios, "tcsetattr"), (tty, "setraw")):
+                stack.enter_context(mock.patch.object(module, name, ended(getattr(module, name))))
+            one.take()
+            self.assertFalse(termios.tcgetattr(slave)[3] & termios.ICANON)
+            one.end()
+            self.assertEqual(termios.tcgetattr(slave), before)
+        self.assertEqual(len(set(calls)), 3)
 
 
 class Keys(lines.Case):
@@ -326,6 +491,49 @@ class InTerminal(lines.Case):
         one.type(b"\x03")
         self.assertEqual(one.status(), 0)
         self.is_as_it_was(one)
+
+    def test_patience_begins_anew_after_a_stop(self):
+        """A stop that is longer than patience: what came meanwhile is read first."""
+        def act(host):
+            host.send(b"GutenTag!")
+            host.listens(1)
+            going_on.wait(stand.LONG)
+            host.send(b"Antwort")
+            host.waits_for_the_end()
+
+        going_on = threading.Event()
+        host = self.host(act)
+        one = self.terminal("line", host.name, "--signs", "blocks", "--patience", "3")
+        self.assertTrue(one.has(b"GutenTag!"))
+        self.assertTrue(lines.until(one.is_raw))
+        one.type(b"x")
+        self.assertTrue(lines.until(lambda: host.came == b"x"))
+        one.signal(signal.SIGTSTP)
+        lines.until(lambda: open(f"/proc/{one.run.pid}/stat", encoding="ascii").read().split()[2] == "T")
+        time.sleep(3.5)
+        going_on.set()
+        self.assertTrue(lines.until(lambda: host.sent == len(b"GutenTag!Antwort")))
+        one.signal(signal.SIGCONT)
+        self.assertTrue(lines.until(lambda: one.run.poll() is not None or self.has_read(one, b"Antwort")))
+        one.type(b"\x03")
+        self.assertEqual((one.status(), one.error), (0, ""))
+
+    def has_read(self, one, part):
+        """Whether a terminal has come to have some bytes."""
+        one.read()
+        return part in one.text
+
+    def test_escape_is_sent_once_nothing_follows(self):
+        host = self.host(self.held(b"GutenTag!"))
+        one = self.terminal("line", host.name, "--signs", "blocks", "--keys", self.written("table", b"escape 1B\n"))
+        self.assertTrue(one.has(b"GutenTag!"))
+        self.assertTrue(lines.until(one.is_raw))
+        for typed, came in ((b"\x1b", b"\x1b"), (b"\x1b[A", b"\x1b\x0b"), (b"\x1bx", b"\x1b\x0b"), (b"y", b"\x1b\x0by")):
+            one.type(typed)
+            self.assertTrue(lines.until(lambda: len(host.came) >= len(came)))
+            self.assertEqual(host.came, came)
+        one.type(b"\x03")
+        self.assertEqual(one.status(), 0)
 
     def test_a_terminal_of_another_size(self):
         one = self.opened(self.held(b"GutenTag!\x1f\x58\x41Unten"), rows=24, columns=40)

@@ -77,7 +77,9 @@ class Messages(stand.Case):
         page, speed = stand.page("title"), "a speed is a whole number from 1 on, and not "
         for words, said in (
             (["terminal", page, "--replay", "abc"], f"{speed}abc"), (["gif", page, "--replay", "0"], f"{speed}0"),
-            (["terminal", page, "--replay", "1" * 19], speed), (["host", stand.PAGES, "--port", "65536"], "whole number from 0 to 65535, and not 65536"),
+            (["terminal", page, "--replay", "1" * 19], "a speed has at most 18 digits, and not 19"),
+            (["host", stand.PAGES, "--port", "1" * 19], "whole number from 0 to 65535, and not 1111"),
+            (["host", stand.PAGES, "--port", "65536"], "whole number from 0 to 65535, and not 65536"),
             (["png", page, "--scale", "+1"], "a scale is a whole number from 1 to 8, and not +1"),
             (["cut", page, "--pause", "long", "-o", self.path("parts")], "a time is a number of seconds, or 0, and not long"),
         ):
@@ -113,6 +115,16 @@ class Messages(stand.Case):
     def test_a_full_disk(self):
         with open("/dev/full", "wb") as full:
             self.ends(["show", stand.page("title")], 5, "the output failed", stdout=full)
+
+    def test_a_full_disk_under_words_of_its_own(self):
+        """Once, by one line, also where so little is written that it is kept to the end."""
+        env = {name: value for name, value in stand.environment().items() if name != "PYTHONUNBUFFERED"}
+        for words in (["diff", "--quiet", stand.page("title"), stand.page("boat")], ["completion", "bash"], ["terminal", stand.page("title")],
+                      ["--help"]):
+            with open("/dev/full", "wb") as full:
+                done = stand.btx(*words, stdout=full, env=env)
+            name = "" if words == ["--help"] else f"{words[0]}: "
+            self.assertEqual((done.returncode, done.stderr.decode()), (4, f"btx: {name}no space left on device\n"))
 
     def test_memory_and_limits(self):
         self.ends(["show", "page"], 6, "not enough memory", env=self.stub(6))
@@ -159,6 +171,15 @@ class Messages(stand.Case):
             said = f"the name {self.folder}/\\xdc isn't UTF-8, and the program takes no other; btx {words[0]} - reads standard input"
             self.assertEqual(self.ends(words, 2, said).stderr.decode(), f"btx: {words[0]}: {said}\n")
         self.assertEqual(self.ends(["terminal", ""], 2, "a name").stderr, b"btx: terminal: a name is empty\n")
+        for words in (["host", "", "--port", "0"], ["cut", "", "-o", "x"], ["check-script", ""], ["archive", "", "-o", "x"]):
+            self.assertEqual(self.ends(words, 2, "a name").stderr.decode(), f"btx: {words[0]}: a name is empty\n")
+        for words in ([""], ["help", ""]):
+            self.assertEqual(self.ends(words, 2, "a name").stderr, b"btx: a name is empty\n")
+
+    def test_control_characters_of_names_are_told_by_their_numbers(self):
+        name = "a\x1b[31mred\x07"
+        self.assertEqual(stand.btx("png", self.path(name), "-o", self.path("x")).stderr.decode(),
+                         f"btx: png: {self.path('a')}\\x1b[31mred\\x07: no such file\n")
 
     def test_help_and_version(self):
         program = ("changes", "check", "list", "show", "cells", "write", "trace", "edit", "plot", "gen", "load")

@@ -29,7 +29,11 @@ def cells_after(name, count):
 
 
 def cells_at_end(name):
-    lines = stand.put("cells", stand.page(name)).decode().splitlines()
+    return cells_of(stand.page(name))
+
+
+def cells_of(path):
+    lines = stand.put("cells", path).decode().splitlines()
     return {(int(row), int(column)): look for row, column, look in (line.split(" ", 2) for line in lines)}
 
 
@@ -65,6 +69,23 @@ class Png(Case):
         short = self.written("short", b"\x1f\x2d\x42\x70\x1b\x23\x20\x54A")
         self.assertEqual(self.picture(page), self.picture(short))
         self.assertEqual(self.picture(short)[700][10], "0000FF")
+
+    def test_rows_below_the_format_flash_with_the_screen(self):
+        """A screen that flashes and is lined, from docs/PROFILE.md: in a phase in which nothing is seen its lines aren't either."""
+        short = self.written("short", b"\x1f\x2d\x42\x70\x1b\x23\x20\x48\x1b\x23\x20\x5aA")
+        seen, gone = (self.picture(short, "--phase", phase) for phase in ("0", "3"))
+        for row in (19, 23):
+            line = 30 * row + 29
+            self.assertEqual((set(seen[line]), set(gone[line])), ({"FFFFFF"}, {"000000"}), row)
+
+    def test_two_pages_of_one_name_are_refused(self):
+        self.pillow()
+        for folder in ("a/b", "a_b"):
+            os.makedirs(self.path(folder))
+            shutil.copy(stand.page("title"), self.path(folder, "x.btx"))
+        done = stand.btx("png", "a/b/x.btx", "a_b/x.btx", "-o", "out", cwd=self.folder)
+        self.assertEqual((done.returncode, os.path.exists(self.path("out"))), (2, False))
+        self.assertIn(b"two pages would have the same picture, a_b_x.btx.png", done.stderr)
 
     def test_each_dot_has_two_by_three_pixels_times_the_scale(self):
         once, thrice = self.picture(stand.page("title")), self.picture(stand.page("title"), "--scale", "3")
@@ -196,6 +217,18 @@ class Gif(Case):
         self.assertEqual(len(frames), 1)
         self.shows_dots(frames[0][1], cells_at_end("boat"))
 
+    def test_a_frame_that_lasts_too_long_for_a_gif_is_several(self):
+        """At a bit a second a byte takes ten seconds: one sign comes after ten and one after 1,020, and all is seen for three more."""
+        front, page = self.written("front", b"A"), self.written("page", b"A" + bytes(100) + b"B")
+        frames, length = self.frames(page, "--replay", "1")
+        self.assertEqual(length, 1_023_000)
+        ends = [time for time, _ in frames[1:]] + [length]
+        self.assertLessEqual(max(end - time for (time, _), end in zip(frames, ends)), 655_350)
+        self.assertEqual([time for time, _ in frames if time in (0, 10_000, 1_020_000)], [0, 10_000, 1_020_000])
+        for time, dots in frames:
+            self.shows_dots(dots, {} if time < 10_000 else cells_of(front if time < 1_020_000 else page))
+            self.assertEqual(dots[:3], bytes(3))
+
     def test_a_page_of_nothing(self):
         frames, _ = self.frames(self.written("empty", b""))
         self.assertEqual(frames, [(0, bytes(3 * 480 * 240))])
@@ -231,6 +264,12 @@ class Svg(Case):
             lines = [text.text for text in self.drawing(stand.page(name)).iter(f"{SVG}text")]
             wanted = stand.put("show", stand.page(name)).decode().splitlines()
             self.assertEqual(lines, [line.rstrip() for line in wanted if line.strip()])
+
+    def test_its_text_is_as_wide_as_its_cells(self):
+        """A cell has 24 pixels; a letter with an accent stands in one, though it is two signs of Unicode."""
+        page = self.written("page", b"B\x19\x48ar\x1f\x42\x41\x19\x42e\x19\x48o x\x1f\x43\x43Bar")
+        found = [(unicodedata.normalize("NFC", text.text), text.get("textLength")) for text in self.drawing(page).iter(f"{SVG}text")]
+        self.assertEqual(found, [("B\xe4r", "72"), ("\xe9\xf6 x", "96"), ("  Bar", "120")])
 
     def test_it_is_as_large_as_a_picture(self):
         root = self.drawing(stand.page("title"))

@@ -1,7 +1,9 @@
 """Recordings of a line, replayed in their own time: by the terminal, as a cast, and in the viewer; and the pages that are cut of one."""
+import errno
 import json
 import os
 import re
+import resource
 
 import lines
 import stand
@@ -120,6 +122,40 @@ class Replays(Kept, lines.Case):
                 if last and not decoder.state().pending:
                     self.assertEqual(shown, self.cells(DATA[:count]))
                     self.shows("".join(text for at, _, text in events if at <= when / 1000), DATA[:count])
+
+
+class Written(stand.Case):
+    """How a recording is written."""
+
+    def test_what_cannot_be_written_is_named(self):
+        """Where no file may have more than 1,000 bytes the system takes the front of a piece, and then no more."""
+        path = self.path("kept")
+        recorder = recording.Recorder(path)
+        self.addCleanup(recorder.close)
+        limits = resource.getrlimit(resource.RLIMIT_FSIZE)
+        resource.setrlimit(resource.RLIMIT_FSIZE, (1000, limits[1]))
+        try:
+            recorder.came(b"A" * 900)
+            with self.assertRaises(OSError) as raised:
+                recorder.came(b"B" * 900)
+        finally:
+            resource.setrlimit(resource.RLIMIT_FSIZE, limits)
+        self.assertEqual((raised.exception.errno, raised.exception.filename), (errno.EFBIG, path))
+        with open(path, "rb") as file:
+            self.assertEqual(file.read(), b"A" * 900 + b"B" * 100)
+
+    def test_a_name_that_is_too_long_for_the_times_leaves_no_file(self):
+        """A name has at most 255 bytes."""
+        for length, is_made in ((249, True), (250, False), (255, False)):
+            path = self.path("k" * length)
+            for _ in range(2):
+                if is_made:
+                    recording.Recorder(path).close()
+                    break
+                with self.assertRaises(OSError) as raised:
+                    recording.Recorder(path)
+                self.assertEqual((raised.exception.errno, raised.exception.filename), (errno.ENAMETOOLONG, path + ".times"))
+            self.assertEqual(os.path.exists(path), is_made)
 
 
 class Cut(lines.Case):
@@ -248,6 +284,8 @@ class Cut(lines.Case):
         for name, said in ((self.path("folder"), "it is a folder, and a recording is a file"), (times, "these are the times of a recording, which is timed")):
             done = stand.btx("cut", name, "-o", self.path("pages"))
             self.assertEqual((done.returncode, done.stderr.decode()), (4, f"btx: cut: {name}: {said}\n"))
+        done = stand.btx("cut", "-", "-o", self.path("pages"))
+        self.assertEqual((done.returncode, done.stderr), (4, b"btx: cut: standard input: it has no times beside it; --all does without\n"))
         self.assertEqual(stand.btx("cut", path, "--all", "-o", self.path("pages")).returncode, 0)
         done = stand.btx("cut", path, "--all", "-o", self.path("pages"))
         self.assertEqual((done.returncode, done.stderr), (4, f"btx: cut: {self.path('pages')}: there are pages in it already\n".encode()))

@@ -87,6 +87,8 @@ class Scripts(stand.Case):
         node, = self.needs("node")
         lines = [f"text {sign}" for sign in self.all_signs()] + ["", " ", "\t# Größe", "text", "text ", "text\tA", "  text  ü ", "text \tü"]
         lines += [" at  1\t2 ", "undo\t", "raw 41 ", "texts ü", "text A„ü", "text ö\u0301", "text \u0308", "#", "Text ü", "text A\u030aa"]
+        # Signs that Unicode composes to some of ASCII.
+        lines += ["text \u212aA", "text \u037e\u1fef"]
         words = [node, "--input-type=module", "-e", LOADS]
         done = subprocess.run(words, input=json.dumps(lines), capture_output=True, text=True, cwd=stand.ROOT, timeout=stand.LONG)
         self.assertEqual(done.returncode, 0, done.stderr)

@@ -134,10 +134,10 @@ class Signs(stand.Case):
 class Asked(stand.Case):
     """btx in a terminal of the test's own, which answers."""
 
-    def run_in(self, answer, size, *words, **variables):
-        """What btx writes into a terminal that answers so, and what it says."""
+    def run_in(self, answer, size, *words, pixels=(0, 0), **variables):
+        """What btx writes into a terminal that answers so, and what it says. The system has its size, and so many pixels."""
         terminal, inside = pty.openpty()
-        fcntl.ioctl(inside, termios.TIOCSWINSZ, struct.pack("HHHH", *size, 0, 0))
+        fcntl.ioctl(inside, termios.TIOCSWINSZ, struct.pack("HHHH", *size, *pixels))
         keys: dict[str, Any] = {"stdin": inside, "stdout": inside, "stderr": subprocess.PIPE, "env": {**FULL, **variables}, "start_new_session": True}
         command = ["setsid", "--ctty", stand.BTX, "terminal", *words]
         run = subprocess.Popen(command, **keys)
@@ -170,9 +170,25 @@ class Asked(stand.Case):
             self.leave_out("setpriv")
 
     def test_a_terminal_with_pictures_has_one(self):
-        for answer, mark in ((b"\x1b_Gi=31;OK\x1b\\\x1b[?62c", b"\x1b_Ga=T"), (b"\x1b[?62;4c", b"\x1bP0;1q"), (b"\x1b[?62c", b"Umlaute")):
+        for answer, mark in (
+            (b"\x1b_Gi=31;OK\x1b\\\x1b[?62c", b"\x1b_Ga=T"), (b"\x1b[4;900;1000t\x1b[?62;4c", b"\x1bP0;1q"), (b"\x1b[?62c", b"Umlaute"),
+        ):
             text, _ = self.run_in(answer, (30, 80), stand.page("title"))
             self.assertIn(mark, text)
+
+    def test_sixel_is_taken_where_its_picture_fits(self):
+        """It has 960 by 720 pixels, and the cursor goes to the row below it: of 25 rows that are 750 pixels high each has 30."""
+        sixel = b"\x1b[?62;4c"
+        for answer, pixels, fits in (
+            (sixel, (960, 750), True), (sixel, (959, 750), False), (sixel, (960, 740), False), (sixel, (640, 400), False),
+            (sixel, (0, 0), False), (b"\x1b[4;750;960t" + sixel, (0, 0), True), (b"\x1b[4;740;960t" + sixel, (0, 0), False),
+            (b"\x1b[4;400;640t" + sixel, (0, 0), False), (b"\x1b[4;0;0t" + sixel, (0, 0), False),
+            (b"\x1b[4;750;960t" + sixel, (640, 400), False),
+        ):
+            text, _ = self.run_in(answer, (25, 80), stand.page("title"), pixels=pixels)
+            self.assertEqual((b"\x1bP0;1q" in text, b"Umlaute" in text), (fits, not fits), (answer, pixels))
+        # Who asks for it has it.
+        self.assertIn(b"\x1bP0;1q", self.run_in(b"", (25, 80), stand.page("title"), "--signs", "sixel", pixels=(640, 400))[0])
 
     def test_signs_that_are_asked_for_ask_nothing(self):
         text, _ = self.run_in(b"", (30, 80), stand.page("title"), "--signs", "blocks")
@@ -184,4 +200,7 @@ class Asked(stand.Case):
         for size in ((23, 80), (30, 39)):
             _, said = self.run_in(b"", size, stand.page("title"), "--signs", "blocks")
             self.assertEqual(said, f"btx: terminal: the terminal has {size[0]} rows of {size[1]}, and a page 24 of 40\n")
-        self.assertEqual(self.run_in(b"", (24, 40), stand.page("title"), "--signs", "blocks")[1], "")
+        # Of 0 by 0 is one that doesn't know its size.
+        for size in ((24, 40), (0, 0)):
+            for words in ((), ("--replay", "10000000")):
+                self.assertEqual(self.run_in(b"", size, stand.page("title"), "--signs", "blocks", *words)[1], "", size)

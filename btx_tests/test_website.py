@@ -1,6 +1,9 @@
 """The website of an archive in a browser: from page to page, folders, search, what the address keeps, languages, titles, print, phone."""
+import functools
+import http.server
 import os
 import shutil
+import threading
 import urllib.parse
 
 import archives
@@ -16,6 +19,13 @@ OUTLINED = """(() => {
   const canvas = document.getElementById("outlines");
   return canvas.getContext("2d").getImageData(0, 0, canvas.width, canvas.height).data.filter((part) => part).length;
 })()"""
+
+
+class Quiet(http.server.SimpleHTTPRequestHandler):
+    """A server of files that tells of no request."""
+
+    def log_message(self, *_):
+        pass
 
 
 class Website(archives.Case):
@@ -99,6 +109,51 @@ class Website(archives.Case):
         self.open("pages/boat.btx.html")
         self.assertFalse(self.tab.value(loaded))
         self.assertEqual(self.tab.faults, [])
+
+    def test_a_long_page_that_cannot_be_decoded_says_why(self):
+        """Where the module was lost, and where the program in it finds no memory."""
+        self.module()
+        self.written("collection/lang.btx", stand.put("gen", "1"))
+        self.archive()
+        module = os.path.join(self.out, "viewer", "module.js")
+        faults = ("", "Tamligub.run = () => ({ status: 6, text: new Uint8Array() }); Tamligub.calling = '() => ({ run: Tamligub.run })';")
+        said = ("what changes on it could not be read here: ", "there is not enough memory; nothing was written")
+        with open(module, encoding="utf-8") as file:
+            text = file.read()
+        for fault, why in zip(faults, said):
+            with open(module, "w", encoding="utf-8") as file:
+                file.write(text + fault if fault else "")
+            self.tab.call("Page.addScriptToEvaluateOnNewDocument", source="window.Worker = undefined; localStorage.setItem('tamligub-language', 'en');")
+            self.open("pages/lang.btx.html")
+            self.tab.until(f"document.getElementById('fault').textContent.startsWith('lang.btx: {why}')")
+            self.tab.until("document.getElementById('name').textContent === 'No page is open.'")
+
+    def test_the_folder_of_any_name_is_found(self):
+        """Whatever signs are in its name, the link of a page leads to what the index has in it."""
+        for name in (b"a\nb", b"Gr\xc3\xb6\xc3\x9fe \xdf", b"a\\x41", b"{title}"):
+            os.mkdir(os.path.join(os.fsencode(self.source), name))
+            shutil.copy(stand.page("boat"), os.path.join(os.fsencode(self.source), name, b"one.btx"))
+        self.archive()
+        for folder in ("a%0Ab", "Gr%C3%B6%C3%9Fe%20%DF", "a%5Cx41", "%7Btitle%7D"):
+            self.open("pages/", f"{folder}/one.btx.html")
+            self.tab.value("[...document.querySelectorAll('#walk a')].find((one) => !one.rel).click()")
+            self.ready("#count")
+            self.tab.until("document.querySelectorAll('#tiles .name').length === 1")
+
+    def test_the_index_of_a_served_website_is_found_as_it_was_left(self):
+        self.archive()
+        server = http.server.ThreadingHTTPServer(("127.0.0.1", 0), functools.partial(Quiet, directory=self.out))
+        threading.Thread(target=server.serve_forever, daemon=True).start()
+        self.addCleanup(server.server_close)
+        self.addCleanup(server.shutdown)
+        self.tab.call("Page.navigate", url=f"http://127.0.0.1:{server.server_port}/")
+        self.ready("#count")
+        self.choose("filter", "refused")
+        self.shows(NAMES, "refused.btx")
+        self.tab.value("document.querySelector('#tiles a').click()")
+        self.ready("#walk a")
+        self.tab.value("document.querySelector('h1 a').click()")
+        self.tab.until("document.getElementById('filter') !== null && document.getElementById('filter').value === 'refused'")
 
     def test_the_way_stays_right_where_a_page_is_gone(self):
         self.archive()
