@@ -15,6 +15,11 @@ export const compiled = WebAssembly.compile(bytesIn(part("module").textContent))
 // Which of the showings is the last: an earlier one that is still decoding shows nothing.
 let turn = 0;
 
+/** @param {PageFault[]} faults */
+function tellFaults(faults) {
+  if (faults.length) tell("fault", () => faults.map((fault) => fault.told()).join("; "));
+}
+
 /**
  * Shows files: stored pages, or the texts of one page. What can't be shown is said, after some faults that are known already.
  * @param {Found[]} list
@@ -27,12 +32,14 @@ async function show(list, faults = []) {
   const pages = files.filter((file) => !file.name.endsWith(".flash"));
   if (files.length && (!pages.length || pages.some((file) => isChanges(file.bytes)))) {
     viewer.takeParts(sorted(files));
+    // What it says of these texts goes before.
+    if (!part("fault").textContent) tellFaults(faults);
     return;
   }
   const shown = await givenOf(pages, faults, (file) => decoded(module, file));
   if (mine !== turn) return;
   if (shown.length) viewer.take(shown);
-  if (faults.length) tell("fault", () => faults.map((fault) => fault.told()).join("; "));
+  tellFaults(faults);
 }
 
 // Until a page is opened the screen says how, and there are pages to look at.

@@ -54,12 +54,25 @@ export function sorted(files) {
   return parts;
 }
 
+// A file that can't be read, as a folder, or one that was written anew since it was chosen.
+export class UnreadFile extends TextFault {
+  /** @param {string} file */
+  constructor(file) {
+    super("ended4");
+    this.file = file;
+  }
+}
+
 /**
  * @param {File} file
  * @returns {Promise<Stored>}
  */
 async function bytesOf(file) {
-  return { name: file.name, bytes: new Uint8Array(await file.arrayBuffer()) };
+  try {
+    return { name: file.name, bytes: new Uint8Array(await file.arrayBuffer()) };
+  } catch (fault) {
+    throw new UnreadFile(file.name);
+  }
 }
 
 /** @param {FileList} list */

@@ -54,7 +54,6 @@ function speak(root) {
 /** @param {string} other */
 function setLanguage(other) {
   language = TABLES[other] ? other : "en";
-  kept("localStorage", KEPT, language);
   document.documentElement.lang = language;
   speak(document);
   for (const act of listeners) act();
@@ -82,7 +81,10 @@ function firstLanguage() {
 export function joinLanguages(list) {
   setLanguage(language);
   list.value = language;
-  list.addEventListener("change", () => setLanguage(list.value));
+  list.addEventListener("change", () => {
+    setLanguage(list.value);
+    kept("localStorage", KEPT, language);
+  });
 }
 
 export const spoken = () => language;

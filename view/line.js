@@ -230,7 +230,8 @@ async function open(event) {
   try {
     asked = new Line(viewer, module, address);
   } catch (fault) {
-    tell("fault", () => word("of", { name: address, why: word("lineNowhere") }));
+    const isBarred = fault instanceof DOMException && fault.name === "SecurityError";
+    tell("fault", () => word("of", { name: address, why: word(isBarred ? "lineBarred" : "lineNowhere") }));
   }
 }
 

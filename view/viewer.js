@@ -1,5 +1,5 @@
 // Joins the parts: pages, the player, the screen, the panels and the controls.
-import { chosen, dropped, embedded, unpacked } from "./files.js";
+import { UnreadFile, chosen, dropped, embedded, unpacked } from "./files.js";
 import { Film, lastGrid, textOfRows } from "./film.js";
 import { joinLanguages, onLanguage, word } from "./language.js";
 import { markIndex, part, say, showCell, showCounts, showIndex, showRefusals, stateOf, tell } from "./panels.js";
@@ -120,6 +120,18 @@ export class Viewer {
     this.take([parts]);
   }
 
+  /**
+   * The same once they are read, or says which file can't be.
+   * @param {Promise<Page>} reading
+   */
+  async takeRead(reading) {
+    try {
+      this.takeParts(await reading);
+    } catch (fault) {
+      tellFault(fault instanceof UnreadFile ? fault.file : "", fault);
+    }
+  }
+
   /** @param {number} number */
   open(number) {
     const page = this.pages[number];
@@ -200,7 +212,8 @@ export class Viewer {
     this.outline();
     if (film) showCounts(film, this.player.come);
     part("bytes").value = this.player.come;
-    if (!this.player.playing()) this.rested();
+    if (this.player.playing()) this.flash();
+    else this.rested();
   }
 
   // What is told only where nothing plays.
@@ -224,10 +237,11 @@ export class Viewer {
     this.screen.outline(cells, this.pointed);
   }
 
-  // Fills the text of the page where that is open.
+  // Fills the text of the page where that is open. One that stands there already stays, with what is marked in it.
   text() {
     const shown = part("text-part").open ? this.shown() : null;
-    if (shown) say("text", textOfRows(shown, part("reveal").checked));
+    const text = shown && textOfRows(shown, part("reveal").checked);
+    if (text !== null && text !== part("text").textContent) say("text", text);
   }
 
   /** @param {number} cell */
@@ -292,6 +306,7 @@ export class Viewer {
    * @param {boolean} font
    */
   letters(font) {
+    if (font === this.screen.font) return;
     this.screen.font = font;
     this.layAnew(this.screen.asked, this.screen.ratio);
   }
@@ -353,7 +368,7 @@ export class Viewer {
       say("cell-bytes", "");
     }
     if (this.page) showRefusals(this.filmOf(this.page), this.check, this.page.name);
-    else say("refusals-count", word("none"));
+    else say("refusals-count", "");
   }
 
   // Says all again in another language.
@@ -469,23 +484,27 @@ function joinControls() {
   on("refusals", "click", onLink);
   const keys = keysOf();
   document.addEventListener("keydown", (event) => onKey(keys, event));
+  // A browser that goes back to a page gives the controls back as they were left, and doesn't say so.
+  window.addEventListener("pageshow", () => {
+    for (const id of ["speed", "outline", "reveal", "font", "flash"]) part(id).dispatchEvent(new Event("change"));
+  });
 }
 
 function joinFiles() {
-  part("open").addEventListener("submit", async (/** @type {Event} */ event) => {
+  part("open").addEventListener("submit", (/** @type {Event} */ event) => {
     event.preventDefault();
-    viewer.takeParts(await chosen());
+    viewer.takeRead(chosen());
   });
   document.addEventListener("dragover", (event) => {
     event.preventDefault();
     document.body.classList.add("dropping");
   });
   document.addEventListener("dragleave", () => document.body.classList.remove("dropping"));
-  document.addEventListener("drop", async (event) => {
+  document.addEventListener("drop", (event) => {
     event.preventDefault();
     document.body.classList.remove("dropping");
     const files = event.dataTransfer ? event.dataTransfer.files : null;
-    if (files && files.length) viewer.takeParts(await dropped(files));
+    if (files && files.length) viewer.takeRead(dropped(files));
   });
 }
 

@@ -31,6 +31,13 @@ def found(name):
     return next(filter(None, (shutil.which(one, path=places) for one in NAMES.get(name, (name,)))), None)
 
 
+def program_at(path):
+    """The whole path of cept_tool; the test ends where there is none."""
+    if not (os.path.isfile(path) and os.access(path, os.X_OK)):
+        raise SystemExit(f"there is no program {path}: ./build makes crates/cept_tool/out/cept_tool, and ./build --quick an unproved one")
+    return os.path.abspath(path)
+
+
 def has_library(name):
     """Whether Python has a library."""
     if PYTHON not in sys.path:

@@ -303,6 +303,18 @@ def the_flash_runs_only_where_something_flashes(tab, stand):
     assert tab.value("clock.waiting()") == 0, "the flash goes on"
 
 
+def what_flashes_does_so_while_a_page_plays(tab, stand):
+    """From its start, at which nothing flashes: from the first sign on that does."""
+    opened_by_a_clock(tab, stand)
+    tab.value("Tamligub.part('flash').click()")
+    go_to(tab, stand, "flashing")
+    tab.value("Tamligub.part('play').click()")
+    assert tab.value("clock.waiting()") == 1, "more waits than the next command"
+    tab.value("while (Tamligub.viewer.player.playing() && !Tamligub.viewer.screen.flashes()) clock.turn(1)")
+    phases = tab.value(f"[1, 2, 3].map(() => {{ clock.turn({PHASE}); return Tamligub.viewer.screen.phase; }})")
+    assert tab.value("Tamligub.viewer.player.playing()") and phases == [1, 2, 3], f"other phases while it plays: {phases}"
+
+
 def concealed_cells_show_when_revealed(tab, stand):
     opened(tab, stand)
     go_to(tab, stand, "answers")
@@ -591,6 +603,35 @@ def the_picture_and_the_text_can_be_taken(tab, stand):
     tab.until("Tamligub.part('state').textContent.length > 0 && Tamligub.part('text').textContent.includes('B I L D')")
 
 
+def a_text_that_the_browser_does_not_copy_is_marked(tab, stand):
+    """Also once the text that was folded is open; what is marked there stays until the text is another."""
+    opened(tab, stand)
+    go_to(tab, stand, "title")
+    tab.value("navigator.clipboard.writeText = () => Promise.reject(new Error('barred')); document.execCommand = () => false; 0")
+    copied = "Tamligub.part('text-part').addEventListener('toggle', () => setTimeout(done))"
+    tab.value(f"new Promise((done) => {{ {copied}; Tamligub.part('copy').click(); }})")
+    tab.until("Tamligub.part('state').textContent.startsWith('The text is selected below')")
+    is_marked = "String(getSelection()).includes('B I L D')"
+    assert tab.value(is_marked), "nothing is marked"
+    tab.value("Tamligub.viewer.rested()")
+    assert tab.value(is_marked), "it is marked no longer"
+    tab.value("Tamligub.viewer.player.toStart()")
+    assert tab.value("Tamligub.part('text').textContent.trim()") == "", "the text of another moment is there"
+
+
+def a_page_that_is_gone_back_to_does_what_its_controls_say(tab, stand):
+    """A browser gives them back as they were left."""
+    opened(tab, stand)
+    tab.value("(({ part }) => { part('speed').value = '9600'; part('speed').dispatchEvent(new Event('change')); part('font').click(); })(Tamligub)")
+    tab.call("Page.navigate", url="file://" + stand.bare)
+    tab.until(f"location.pathname === {json.dumps(stand.bare)} && document.readyState === 'complete'")
+    tab.value("history.back(), 0")
+    tab.until(f"location.pathname === {json.dumps(stand.html)} && document.readyState === 'complete' && window.Tamligub && Tamligub.begun && true")
+    here = "Tamligub.begun.then(() => (({ part, viewer }) => [part('speed').value, part('font').checked, viewer.player.speed, viewer.screen.font])(Tamligub))"
+    speed, font, *done = tab.value(here)
+    assert [int(speed), font] == done, f"{speed} bit/s and {font} are shown, and {done} is done"
+
+
 def a_big_file_is_read_once(tab, stand):
     """Two pages in a file of btx html, one of 50,000 bytes each of which changes a cell: each text is read once, for its small picture
     and its film, however often its page is opened, and each picture is painted once."""
@@ -655,7 +696,7 @@ CASES = (
     the_canvas_shows_the_cells, letters_of_a_font_stand_in_their_cells,
     flash_has_six_phases, without_the_flash_each_sign_is_seen, phases_by_the_lines_of_flash_are_those_of_the_looks,
     lines_of_flash_are_what_is_shown, files_have_the_lines_of_flash_where_a_page_flashes,
-    the_flash_runs_only_where_something_flashes,
+    the_flash_runs_only_where_something_flashes, what_flashes_does_so_while_a_page_plays,
     concealed_cells_show_when_revealed, double_density_is_sharp,
     the_slider_shows_what_has_come,
     a_recording_plays_in_its_own_time,
@@ -663,6 +704,7 @@ CASES = (
     nothing_is_lost_at_200_percent, with_less_motion_nothing_moves,
     refusals_are_listed_and_lead_to_their_moments, an_address_names_a_page_as_it_is_or_as_addresses_have_it, no_byte_of_a_page_is_markup,
     a_cell_tells_its_line_and_bytes, a_pointer_over_the_screen_names_the_cell,
-    the_index_has_small_pictures, the_picture_and_the_text_can_be_taken, a_big_page_is_painted_cell_by_cell,
+    the_index_has_small_pictures, the_picture_and_the_text_can_be_taken, a_text_that_the_browser_does_not_copy_is_marked,
+    a_page_that_is_gone_back_to_does_what_its_controls_say, a_big_page_is_painted_cell_by_cell,
     a_big_file_is_read_once,
 )

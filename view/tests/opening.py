@@ -143,7 +143,23 @@ def the_text_of_flash_is_opened_and_dropped(tab, stand):
     tab.until("Tamligub.part('fault').textContent === \"The text of changes isn't there.\"")
 
 
+def a_file_that_cannot_be_read_is_named(tab, stand):
+    """One that was written anew since it was chosen, and one that is dropped, as a folder; the page that is there stays."""
+    tab.open(stand.bare)
+    path, line = stand.kept("again.changes", "0 1 1 P41 11.00 FFF 000 S---\n"), "1 1 2 P42 11.00 FFF 000 S---\n"
+    choose(tab, {"file-changes": path})
+    tab.value(SHOW)
+    tab.until("Tamligub.viewer.film() !== null")
+    stand.kept("again.changes", line)
+    os.utime(path, (1, 1))
+    drop = "File.prototype.arrayBuffer = () => Promise.reject(new DOMException('a folder', 'NotFoundError')); " + DROP % '[["folder", ""]]'
+    for act, name in ((SHOW, "again.changes"), (drop, "folder")):
+        tab.value(f"{FAULT} = ''; {act}")
+        tab.until(f"{FAULT} === '{name}: it could not be read to its end'")
+    assert tab.value("[Tamligub.viewer.page.name, Tamligub.viewer.film().moments.length]") == ["again.changes", 1]
+
+
 CASES = (
     without_a_text_of_changes_nothing_is_shown, a_wrong_file_leaves_the_pages_that_are_there, text_that_is_no_changes_names_its_line,
-    files_are_opened_and_dropped, the_text_of_flash_is_opened_and_dropped,
+    files_are_opened_and_dropped, the_text_of_flash_is_opened_and_dropped, a_file_that_cannot_be_read_is_named,
 )
