@@ -65,6 +65,7 @@ export class Cuts {
    */
   makeLines(items, count) {
     const { sheet, asker } = this.needs;
+    const { undone } = this;
     const shown = asker.cells(sheet.edited());
     const { nothings } = sheet.making;
     const old = sheet.lines.filter((_, index) => !nothings.includes(index + 1));
@@ -75,8 +76,8 @@ export class Cuts {
       this.cut(items, found.count, script);
       if (sheet.fault === null && asker.cells(sheet.edited()) === shown) return { items: items.items.length - found.count, lines: found.lines.length };
       this.undo();
+      this.undone = undone;
     }
-    this.undone = [];
     return null;
   }
 

@@ -2,9 +2,11 @@
 // become one line of the script, with the chosen pen, and what that line shows is seen before it is kept.
 import { COLUMNS, ROWS, readCells } from "./shared.js";
 import { speak, word } from "./words.js";
-import { BadLine } from "./faults.js";
+import { AskFault, BadLine } from "./faults.js";
 import { whyBad } from "./grammar.js";
 import { inGrammar, raw, sameBytes } from "./lines.js";
+import { STATUS } from "./statuses.js";
+import { isTooLong } from "./sheet.js";
 import { Steps, kindOf } from "./steps.js";
 import { button, group, inLine, make, part, rove } from "./controls.js";
 
@@ -46,6 +48,12 @@ function linesOf(text) {
   while (lines[lines.length - 1] === "") lines.pop();
   return lines;
 }
+
+/**
+ * Whether the lines of a drawing are more than the program takes.
+ * @param {string} text
+ */
+export const isLongDrawing = (text) => isTooLong(`${linesOf(text).join("\n")}\n`);
 
 /**
  * The first of some places or numbers, and whether there are more.
@@ -353,7 +361,7 @@ export class Drawing {
   }
 
   /**
-   * Tries lines on the page; one that is wrong is told.
+   * Tries lines on the page; one that is wrong is told, and where the program ends without an answer.
    * @param {string[]} lines
    */
   tryLine(lines) {
@@ -362,22 +370,34 @@ export class Drawing {
       this.drawn = line ? this.preview(line, wanted) : null;
       this.tellLost(this.drawn && this.drawn.other, linesBelow(lines, this.tall()));
     } catch (fault) {
+      if (fault instanceof AskFault) {
+        const isLong = fault.status === STATUS.TOO_LONG && isLongDrawing(lines.join("\n"));
+        this.fault(word(isLong ? "drawTooLong" : "ended", { status: fault.status }));
+        return;
+      }
       if (!(fault instanceof BadLine)) throw fault;
       const why = whyBad(fault, lines[fault.line - 1], "drawing", (page) => this.needs.asker.check(page));
       this.fault(word("drawBad", { ...fault, why }));
     }
   }
 
-  // Makes the drawing a line of the script, after a comment that says what was drawn. One that can't be tried or changes nothing stays, and it
-  // is said why.
+  // Makes the drawing a line of the script, after a comment that says what was drawn. One that can't be tried, changes nothing or finds no room
+  // in the script stays, and it is said why.
   keep() {
-    const { drawn, lines } = this;
+    const { drawn, lines, steps } = this;
+    let isFull = false;
     if (drawn) {
       this.forget();
-      this.tell({ kind: "act", lines: [`# ${lines.filter((line) => line).join("; ")}`, drawn.line] });
+      try {
+        this.tell({ kind: "act", lines: [`# ${lines.filter((line) => line).join("; ")}`, drawn.line] });
+      } catch (fault) {
+        if (!(fault instanceof AskFault)) throw fault;
+        [isFull, this.lines, this.steps] = [true, lines, steps];
+      }
       this.put();
     }
     this.show();
+    if (isFull) this.fault(word("drawFull"));
   }
 
   /**
@@ -389,14 +409,15 @@ export class Drawing {
   }
 
   /**
-   * Goes on with lines that were stored; without any there is no drawing.
+   * Goes on with lines that were stored, each a step; without any there is no drawing.
    * @param {string} text
    */
   goOn(text) {
     this.forget();
     for (const line of linesOf(text)) {
-      this.strokes++;
-      this.add(line);
+      if (this.lines[this.lines.length - 1] === line) continue;
+      this.steps.append(this.lines.length ? `\n${line}` : line);
+      this.lines.push(line);
     }
     this.put();
     this.show();

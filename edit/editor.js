@@ -8,13 +8,14 @@ import { joinTabs, make, part, say } from "./controls.js";
 import { Typing } from "./typing.js";
 import { Pen } from "./pen.js";
 import { Mosaic } from "./mosaic.js";
-import { Drawing, POINTS_TALL, POINTS_WIDE } from "./drawing.js";
+import { Drawing, POINTS_TALL, POINTS_WIDE, isLongDrawing } from "./drawing.js";
 import { PatternEditor } from "./pattern.js";
 import { ColourPanel, Whole } from "./whole.js";
 import { ScriptPane } from "./script.js";
 import { Cuts } from "./cuts.js";
 import { Listing } from "./listing.js";
 import { Keep, savedOf } from "./keep.js";
+import { STATUS } from "./statuses.js";
 import { chosenLanguage, isBegun } from "./store.js";
 
 const PHASE_TIME = 1000 / PHASES;
@@ -169,12 +170,14 @@ class Editor {
   }
 
   /**
-   * Draws the lines of a file, after those of the drawing that is under way.
+   * Draws the lines of a file, after those of the drawing that is under way, which stays where both are too long.
    * @param {string} text
    */
   draw(text) {
+    const all = [this.drawing.underWay(), text].filter((lines) => lines).join("\n");
+    if (isLongDrawing(all)) throw new AskFault("plot", STATUS.TOO_LONG);
     part("tab-draw").click();
-    if (this.asker.canPlot) this.drawing.goOn([this.drawing.underWay(), text].filter((lines) => lines).join("\n"));
+    if (this.asker.canPlot) this.drawing.goOn(all);
   }
 
   /** @param {import("./store.js").Kept} kept */
@@ -662,11 +665,15 @@ function joinControls(editor) {
     if (event.detail > 0 && writesOn && document.activeElement !== part("script")) part("typing").focus({ preventScroll: true });
   });
   // Where the program ends without an answer, as for a script that is too long, its status is said.
-  window.addEventListener("error", (event) => {
-    if (!(event.error instanceof AskFault)) return;
-    editor.tell(editor.keep.endOf(event.error, editor.keep.shownName()), true);
+  /** @type {(event: Event, fault: unknown) => void} */
+  const ended = (event, fault) => {
+    if (!(fault instanceof AskFault)) return;
+    // Once a page is open its script alone can get too long.
+    editor.tell(editor.keep.endOf(fault, fault.status === STATUS.TOO_LONG ? word("script") : editor.keep.shownName()), true);
     event.preventDefault();
-  });
+  };
+  window.addEventListener("error", (event) => ended(event, event.error));
+  window.addEventListener("unhandledrejection", (event) => ended(event, event.reason));
   joinTabs(part("tabs"), (panel) => {
     if (panel === "pattern") {
       editor.pattern.mark();

@@ -7,6 +7,7 @@ import { isDrawing } from "./grammar.js";
 import { Store, isBegun, toLetters } from "./store.js";
 import { asLines } from "./sheet.js";
 import { part } from "./controls.js";
+import { isLongDrawing } from "./drawing.js";
 
 /** @typedef {import("./types.js").Tell} Tell */
 
@@ -25,6 +26,8 @@ const IS_SCRIPT = /\.(script|txt)$/i;
 const IS_DRAWING = /\.drawing$/i;
 // Each phase of the flash once, and back to the first.
 const TURNS = 6;
+// So many bytes the program takes of a page.
+const MOST_PAGE = 2 ** 24;
 
 /**
  * A file that is opened: what it is, and its text where it is no page; of a closed one, which isn't opened, the text says why.
@@ -284,12 +287,21 @@ export class Keep {
       const all = await Promise.all(files.map(opened));
       const closed = all.filter((file) => file.kind === "closed");
       const { script, page, drawing, rest } = sortedFiles(all.filter((file) => file.kind !== "closed"));
-      name = (page || script || drawing || { name }).name;
+      const first = page || script || drawing || { name };
       const remarks = [...closed.map((file) => file.text), remarksOn(page ? page.name : null, rest.map((file) => file.name))];
       const said = remarks.filter((remark) => remark).join(" ");
+      name = first.name;
       const bytes = page ? new Uint8Array(await page.file.arrayBuffer()) : this.needs.sheet.page;
+      if (drawing && isLongDrawing(drawing.text)) {
+        name = drawing.name;
+        throw new AskFault("plot", STATUS.TOO_LONG);
+      }
+      name = this.shownName();
       if ((page || script) && !(await this.mayLeave())) return;
+      // Where it isn't the page that is too long it is the script.
+      name = script && bytes.length <= MOST_PAGE ? script.name : first.name;
       if (page || script) this.take(savedOf(page ? page.name : this.name || name, bytes, script ? script.text : ""));
+      name = drawing ? drawing.name : name;
       if (drawing) this.tell({ kind: "figures", text: drawing.text });
       if (said) this.say(said, closed.length > 0);
     } catch (fault) {
@@ -313,12 +325,17 @@ export class Keep {
     window.addEventListener("beforeunload", (event) => {
       if (this.isUnsaved()) event.preventDefault();
     });
+    // A text is dragged as the browser does it.
+    /** @type {(event: DragEvent) => boolean} */
+    const hasFiles = (event) => event.dataTransfer !== null && event.dataTransfer.types.includes("Files");
     document.addEventListener("dragover", (event) => {
+      if (!hasFiles(event)) return;
       event.preventDefault();
       document.body.classList.add("dropping");
     });
     document.addEventListener("dragleave", () => document.body.classList.remove("dropping"));
     document.addEventListener("drop", (event) => {
+      if (!hasFiles(event)) return;
       event.preventDefault();
       document.body.classList.remove("dropping");
       if (event.dataTransfer) this.open(event.dataTransfer.files);

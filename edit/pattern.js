@@ -103,7 +103,7 @@ export class PatternEditor {
     [...this.sizes.options].forEach((option) => { option.textContent = option.value.replace("x", " × "); });
     this.sizes.value = this.size;
     const buttons = [
-      button("patternClear", () => this.whole(() => 0)), button("patternTurn", () => this.whole((pixel) => COUNTS[this.planes] - 1 - pixel)),
+      button("patternClear", () => this.clear()), button("patternTurn", () => this.whole((pixel) => COUNTS[this.planes] - 1 - pixel)),
       button("patternDefine", () => this.define(), { class: "main" }), button("patternWrite", () => this.write()),
     ];
     part("pattern").append(
@@ -125,6 +125,12 @@ export class PatternEditor {
     this.planes = planes;
     this.ink = Math.min(this.ink, COUNTS[planes] - 1);
     this.setSize(size);
+    this.changed();
+  }
+
+  // Clears the field, beyond the form too.
+  clear() {
+    this.field = blankField();
     this.changed();
   }
 

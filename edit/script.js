@@ -3,6 +3,7 @@
 import { word } from "./words.js";
 import { whyBad } from "./grammar.js";
 import { isEdit } from "./sheet.js";
+import { AskFault } from "./faults.js";
 import { Steps, kindOf } from "./steps.js";
 import { part, say } from "./controls.js";
 
@@ -89,7 +90,13 @@ export class ScriptPane {
     clearTimeout(this.waiting);
     this.waiting = 0;
     this.follow();
-    this.tell({ kind: "typed", text: this.field.value });
+    try {
+      this.tell({ kind: "typed", text: this.field.value });
+    } catch (fault) {
+      // What is too long isn't taken.
+      if (fault instanceof AskFault) this.field.value = this.steps.text;
+      throw fault;
+    }
     this.steps.note(this.field.value, this.written);
   }
 

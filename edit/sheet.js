@@ -53,7 +53,7 @@ export const asLines = (script) => textOf(linesOf(script));
  * Whether a text has more bytes than a script may have.
  * @param {string} text
  */
-const isTooLong = (text) => text.length > LONGEST || (3 * text.length > LONGEST && new TextEncoder().encode(text).length > LONGEST);
+export const isTooLong = (text) => text.length > LONGEST || (3 * text.length > LONGEST && new TextEncoder().encode(text).length > LONGEST);
 
 export class Sheet {
   /** @param {Asker} asker */

@@ -75,6 +75,17 @@ export class Steps {
     this.text = text;
   }
 
+  /**
+   * Notes that more stands at the end of the text now, as a step of its own: without a look at what stands before.
+   * @param {string} more
+   */
+  append(more) {
+    if (more === "") return;
+    this.done.push({ at: this.text.length, before: "", after: more, kind: "" });
+    this.undone = [];
+    this.text += more;
+  }
+
   // The kind of the last step, or nothing.
   kind() {
     const last = this.done[this.done.length - 1];

@@ -66,6 +66,8 @@ export class Whole {
       const lines = colourLines(kind, [[entryOf(back), BACK], [entryOf(fore), FORE]], this.needs.sheet.inForce().table);
       if (attribute.value) lines.push(`${kind} ${WHOLE[attribute.value]}`);
       if (lines.length) this.act(lines, kind);
+      // What was refused, since a line of the script is wrong, stays chosen.
+      if (this.needs.sheet.fault) return;
       for (const select of [back, fore, attribute]) select.value = "";
     };
     return inLine(group(key, back, fore, attribute, button("apply", set, { "data-apply": kind })));

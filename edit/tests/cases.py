@@ -478,6 +478,15 @@ def rows_screen_area_format_and_colours_are_lines(hand):
         hand.click(f'[data-apply="{kind}"]')
         assert hand.lines()[-5:] == ["table 2", f"{kind} 17", "table 0", f"{kind} 2", f"{kind} 26"], hand.lines()
     hand.is_true()
+    # What is refused stays chosen.
+    script = hand.script()
+    hand.write_script(script + "frob\n")
+    hand.choose('[data-kind="row"]', "3", 0)
+    hand.click('[data-apply="row"]')
+    chosen = hand.tab.value("document.querySelector('[data-kind=row]').value")
+    assert chosen == "3" and "berichtigen" in hand.text("fault"), (chosen, hand.text("fault"))
+    hand.write_script(script)
+    hand.choose('[data-kind="row"]', "", 0)
     for number in range(6):
         hand.click('#sheet [data-name="areaPart"] button', number)
         hand.is_true()
@@ -1212,6 +1221,19 @@ def a_painted_sign_is_asked_about_and_outlasts_a_crash(hand):
     assert not hand.text("name").endswith("●") and hand.tab.value(IS_LEFT), "what was saved is asked about"
 
 
+def a_sign_is_cleared_beyond_its_form(hand):
+    hand.fresh()
+    hand.tab_of("pattern")
+    hand.choose("#pattern-size", "12x12")
+    hand.press(*hand.place(10, 10, 12, 12, "pixels"))
+    hand.choose("#pattern-size", "6x5")
+    assert not hand.tab.value(IS_LEFT), "a sign is left without a word"
+    hand.click('#pattern [data-word="patternClear"]')
+    assert hand.tab.value(IS_LEFT) and not hand.text("name").endswith("●"), "what was cleared is asked about"
+    hand.kept("#keep-page")
+    assert hand.lines() == [], hand.script()
+
+
 def refused_items_are_told(hand):
     hand.fresh(page("refused"))
     want = [line.split(" ")[1:] for line in hand.put("check", page("refused")).decode().splitlines() if line.startswith("!")]
@@ -1226,10 +1248,13 @@ def refused_items_are_told(hand):
     hand.open(hand.written("latin.txt", "at 1 1\ntext Größe\n".encode("latin-1")))
     hand.tab.until("Tamligub.part('fault').textContent.startsWith('latin.txt ist nicht in UTF-8')")
     assert hand.lines() == [], hand.lines()
-    hand.fill("#script", "#" * (1 << 20) + "\n")
-    assert "zu lang" in hand.text("fault"), hand.text("fault")
     hand.fill("#script", "at 1 1\n")
     assert hand.text("fault") == "" and hand.lines() == ["at 1 1"]
+    hand.fill("#script", "#" * (1 << 20) + "\n")
+    assert hand.text("fault").startswith("Skript ist zu lang"), hand.text("fault")
+    assert hand.tab.value("Tamligub.part('script').value") == "at 1 1\n", "another script is seen than is there"
+    hand.fill("#script", "at 1 2\n")
+    assert hand.text("fault") == "" and hand.lines() == ["at 1 2"]
 
 
 def a_script_that_is_too_long_is_not_opened(hand):
@@ -1241,10 +1266,81 @@ def a_script_that_is_too_long_is_not_opened(hand):
     for files in ([longer], [longer, page("title")]):
         hand.tab.value("Tamligub.editor.tell('')")
         hand.open(*files)
-        assert "zu lang" in hand.text("fault"), hand.text("fault")
+        assert hand.text("fault").startswith("longer.script ist zu lang"), hand.text("fault")
         assert hand.script() == hand.shown_script() == script and hand.text("name") == "boat.btx", (hand.text("name"), hand.script())
         whole = hand.is_true(stored)
     assert hand.kept("#keep-page") == ("boat.btx", whole), "another page is kept"
+
+
+def a_long_drawing_is_opened_and_undone(hand):
+    """Line by line; after a crash too."""
+    lines = [f"{word} {x} {y}" for word in ("plot", "unplot", "plot") for x in range(80) for y in range(72)]
+    hand.fresh(page("boat"))
+    still(hand)
+    choose_file(hand, hand.written("long.drawing", "\n".join(lines).encode()))
+    hand.tab.until(f"Tamligub.part('drawing').value.length === {len(chr(10).join(lines))}")
+    hand.key("z", 2, held=CONTROL)
+    assert hand.tab.value(DRAWN).split("\n") == lines[:-2], "not the last lines are undone"
+    hand.settle()
+    hand.crash()
+    still(hand)
+    hand.key("z", held=CONTROL)
+    assert hand.tab.value(DRAWN).split("\n") == lines[:-3], "not the last line is undone after a crash"
+
+
+def a_drawing_that_is_too_long_is_told(hand):
+    """It isn't opened, and what is drawn stays; written by hand it is told, and all that is kept is without it."""
+    hand.fresh(page("boat"))
+    still(hand)
+    hand.tab_of("draw")
+    hand.fill("#drawing", "plot 3 3")
+    longer = hand.written("longer.drawing", b"plot 1 1\nplot 1 2\n" * 59000)
+    for files in ([longer], [longer, page("title")]):
+        hand.tab.value("Tamligub.editor.tell('')")
+        hand.open(*files)
+        assert hand.text("fault").startswith("longer.drawing ist zu lang"), hand.text("fault")
+        assert hand.tab.value(DRAWN) == "plot 3 3" and hand.text("name") == "boat.btx ●", hand.text("name")
+    hand.fill("#drawing", "#" * (1 << 20))
+    assert hand.text("draw-fault").startswith("Die Zeichnung ist zu lang"), hand.text("draw-fault")
+    for selector in ("#keep-page", "#keep-script", "#keep-picture", "#keep-html"):
+        hand.kept(selector)
+        assert "aber ohne" in hand.text("note"), (selector, hand.text("note"), hand.text("fault"))
+    hand.click('#draw [data-word="drawDrop"]')
+    assert hand.text("draw-fault") == "", hand.text("draw-fault")
+    # One that finds no room in the script stays as it is.
+    hand.fill("#drawing", "#" * ((1 << 20) - 10) + "\nplot 3 3")
+    shown = hand.looks()
+    hand.click("#draw button.main")
+    assert "zu lang" in hand.text("draw-fault") and hand.lines() == [], hand.text("draw-fault")
+    assert hand.tab.value(DRAWN).endswith("#\nplot 3 3") and hand.looks() == shown, "the drawing is lost"
+
+
+def what_ends_in_a_question_is_told(hand):
+    """Where the page can't be saved that is asked about."""
+    hand.fresh(page("title"))
+    hand.cell(24, 1)
+    hand.type("x")
+    hand.tab.value("Tamligub.editor.keep.keepPage = () => { throw new Tamligub.AskFault('edit', 7); }, 0")
+    hand.click("#new")
+    hand.tab.until("Tamligub.part('unsaved').open")
+    hand.click("#unsaved-keep")
+    hand.tab.until("Tamligub.part('fault').textContent.startsWith('Skript ist zu lang')")
+    assert hand.lines()[-1] == "text x", hand.script()
+
+
+# Whether the browser does by itself what it does with what is dragged over a field: a file, or a text.
+DRAGGED = """['file', 'text'].map((kind) => {
+  const dataTransfer = new DataTransfer();
+  if (kind === 'file') dataTransfer.items.add(new File([], 'none.png'));
+  else dataTransfer.setData('text/plain', 'text X');
+  const event = new DragEvent('dragover', { bubbles: true, cancelable: true, dataTransfer });
+  return Tamligub.part('script').dispatchEvent(event);
+})"""
+
+
+def texts_are_dragged_in_fields(hand):
+    hand.fresh()
+    assert hand.tab.value(DRAGGED) == [False, True], hand.tab.value(DRAGGED)
 
 
 def a_message_ends_with_its_page(hand):
@@ -1336,15 +1432,19 @@ def a_drawing_is_opened(hand):
     assert hand.text("name") == "boat.btx ●", hand.text("name")
 
 
+def choose_file(hand, path):
+    root = hand.tab.call("DOM.getDocument")["root"]["nodeId"]
+    node = hand.tab.call("DOM.querySelector", nodeId=root, selector="#file")["nodeId"]
+    hand.tab.call("DOM.setFileInputFiles", nodeId=node, files=[path])
+
+
 def opens_a_drawing(hand, drawing):
     lines = [line for line in read(drawing).decode().split("\n") if line]
     hand.fresh(page("weather"))
     hand.tab_of("draw")
     hand.fill("#drawing", "plot 79 71")
     hand.tab_of("pen")
-    root = hand.tab.call("DOM.getDocument")["root"]["nodeId"]
-    node = hand.tab.call("DOM.querySelector", nodeId=root, selector="#file")["nodeId"]
-    hand.tab.call("DOM.setFileInputFiles", nodeId=node, files=[drawing])
+    choose_file(hand, drawing)
     hand.tab.until(f"Tamligub.part('drawing').value.split('\\n').length > {len(lines)}")
     assert hand.tab.value("Tamligub.part('drawing').value").split("\n") == ["plot 79 71", *lines]
     assert hand.text("name") == "weather.btx ●" and hand.tab.value("Tamligub.part('draw').hidden") is False, hand.text("name")
@@ -1710,7 +1810,8 @@ CASES = (
     the_picture_reveals_what_is_revealed, what_is_not_opened_is_told, a_drawing_is_opened,
     what_flashes_is_that_of_flash, letters_of_the_browsers_font_take_the_place_of_dots, tidying_takes_undone_lines_out,
     the_keyboard_alone_does_all, every_control_has_a_name_in_both_languages, nothing_moves_under_the_pointer, it_fits_small_screens,
-    a_finger_places_the_caret,
+    a_finger_places_the_caret, a_long_drawing_is_opened_and_undone, a_drawing_that_is_too_long_is_told, what_ends_in_a_question_is_told,
+    texts_are_dragged_in_fields, a_sign_is_cleared_beyond_its_form,
     each_panel_serves_a_person_without_a_mouse, with_less_motion_nothing_moves,
     random_actions_show_what_the_program_says, lines_end_a_break_of_the_page, no_other_script_runs,
 )

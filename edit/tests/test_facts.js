@@ -44,6 +44,7 @@ test("the longest page and the longest script are told as they are", () => {
   assert.ok(MANUAL.includes("2\\(ha24 bytes") && MANUAL.includes("2\\(ha20 bytes"));
   for (const [language, table] of Object.entries(TABLES)) {
     for (const most of [2 ** 24, 2 ** 20]) assert.ok(table.ended7.includes(most.toLocaleString(language)), `${language}: ${table.ended7}`);
+    assert.ok(table.drawTooLong.includes((2 ** 20).toLocaleString(language)), table.drawTooLong);
   }
 });
 

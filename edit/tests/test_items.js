@@ -127,6 +127,21 @@ asked("a page is cut after an item, and the cut is undone and made again", () =>
   assert.ok(!again.cuts.undoRedo("redo"));
 });
 
+asked("a cut that was undone is made again after lines that would show something else", () => {
+  const page = bytes(0x1f, 0x42, 0x41, ...signs("AB"), 0x1f, 0x43, 0x41, ...signs("CD"));
+  const { sheet, cuts, items } = cutOf(page);
+  cuts.cut(items(), 3, "");
+  assert.ok(cuts.undoRedo("undo"));
+  const real = cuts.needs;
+  let calls = 0;
+  cuts.needs = { sheet, asker: Object.assign(asker(), { cells: () => String(calls++) }) };
+  assert.strictEqual(cuts.makeLines(items(), 1), null);
+  cuts.needs = real;
+  assert.deepStrictEqual([calls > 1, sheet.page, rowOf(sheet, 3)], [true, page, "CD"]);
+  assert.ok(cuts.undoRedo("redo"));
+  assert.deepStrictEqual([sheet.page, rowOf(sheet, 3)], [page.slice(0, 5), ""]);
+});
+
 asked("the lines of stored pages are in words", () => {
   for (const [name, texts, noted] of [["title", 6, "Schrift in doppelter Größe"], ["boat", 12, ""], ["weather", 15, "Wärme, Grad"], ["timetable", 20, "München"], ["answers", 5, ""]]) {
     const { sheet, cuts, items } = cutOf(stored(name));

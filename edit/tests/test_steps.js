@@ -44,6 +44,18 @@ test("of which kind the last step was is known until it is taken back", () => {
   assert.deepStrictEqual(kinds, ["tidying", "deleteContentBackward", ""]);
 });
 
+test("what is added at the end is a step each, however much stands before", () => {
+  const steps = stepsOf("", ["a", "insertText"]);
+  for (let count = 0; count < 100000; count++) steps.append("\nplot 12 34");
+  assert.deepStrictEqual([steps.undoRedo("undo"), steps.text.length], [1 + 11 * 99999, 1 + 11 * 99999]);
+  assert.deepStrictEqual([steps.undoRedo("redo"), steps.text.length], [1 + 11 * 100000, 1 + 11 * 100000]);
+  steps.undoRedo("undo");
+  steps.append("");
+  assert.strictEqual(steps.undone.length, 1);
+  steps.append("b");
+  assert.deepStrictEqual([steps.undoRedo("redo"), steps.undoRedo("undo")], [null, 1 + 11 * 99999]);
+});
+
 test("after another step nothing is made again, and of another text there are no steps", () => {
   const steps = stepsOf("", ["a", ""]);
   steps.undoRedo("undo");
