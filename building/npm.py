@@ -55,7 +55,7 @@ def check(out):
     """Ends where the package's place in a folder has something else in it."""
     folder = os.path.join(out, FOLDER)
     is_empty = os.path.isdir(folder) and not os.listdir(folder)
-    if os.path.lexists(folder) and not is_empty and not is_own(folder):
+    if os.path.islink(folder) or os.path.lexists(folder) and not is_empty and not is_own(folder):
         raise Stop(f"{folder}: it is no package that was made here, and stays; the library needs another folder")
 
 

@@ -36,6 +36,9 @@ int main(int count, char **words)
         fprintf(stderr, "example: status %u\n", (unsigned)status);
         return EXIT_FAILURE;
     }
-    fwrite(text, 1, (size_t)put, stdout);
+    if (fwrite(text, 1, (size_t)put, stdout) < put || fflush(stdout) != 0) {
+        perror("example");
+        return EXIT_FAILURE;
+    }
     return EXIT_SUCCESS;
 }

@@ -106,6 +106,9 @@ int main(void)
     tamligub_close(&decoder);
 
     printf("P6\n%d %d\n255\n", WIDTH, HEIGHT);
-    fwrite(dots, sizeof dots[0], HEIGHT, stdout);
+    if (fwrite(dots, sizeof dots[0], HEIGHT, stdout) < HEIGHT || fflush(stdout) != 0) {
+        perror("example_dots");
+        return EXIT_FAILURE;
+    }
     return EXIT_SUCCESS;
 }

@@ -37,5 +37,9 @@ int main(void)
     tamligub_finish(&decoder, list, TAMLIGUB_ROOM_FOR_A_BYTE, &notices);
     say(notices);
     tamligub_close(&decoder);
+    if (fflush(stdout) != 0 || ferror(stdout)) {
+        perror("example_feed");
+        return EXIT_FAILURE;
+    }
     return EXIT_SUCCESS;
 }

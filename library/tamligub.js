@@ -23,7 +23,8 @@
 //
 // Notices, states and colours are objects with the fields of tamligub.h; where there is no pattern it is null. What can't be done is
 // thrown, as a class of its own: Closed, NoSnapshot, TooLong, NoMemory, and BadLine for a line outside the grammar, with the number of its
-// reason, 1 to 6, and its name. Bytes are a Uint8Array, a script may be a string too; a TypeError says so of anything else.
+// reason, 1 to 6, and its name. Bytes are a Uint8Array, a script may be a string too; a TypeError says so of anything else, and of what is no
+// module.
 "use strict";
 
 const PAGE_OF_MEMORY = 65536;
@@ -35,6 +36,8 @@ const NO_MEMORY = 6;
 const TOO_LONG = 7;
 const MOST_ROOM = 1 << 29;
 const MOST_NUMBER = 2 ** 32 - 1;
+const MODULE = "a WebAssembly.Module";
+const MODULE_OR_INSTANCE = "a WebAssembly.Module or an instance of it";
 const BYTES = "a Uint8Array";
 const BYTES_OR_TEXT = "a Uint8Array or a string";
 const LINE_REASONS = ["UnknownWord", "WrongCount", "BadNumber", "BadText", "BadHex", "BadBytes"];
@@ -46,9 +49,14 @@ function givenOf({ page, script, number }) {
     return number === undefined ? 1 : 4;
 }
 
-// Bytes that are handed in, of this window or of another one; a Buffer of Node is a Uint8Array too.
+// What kind of thing something is, of this window or of another one.
+function kindOf(thing) {
+    return Object.prototype.toString.call(thing).slice(8, -1);
+}
+
+// Bytes that are handed in; a Buffer of Node is a Uint8Array too.
 function bytesIn(bytes, takes = BYTES) {
-    const kind = Object.prototype.toString.call(bytes).slice(8, -1);
+    const kind = kindOf(bytes);
     if (kind !== "Uint8Array") throw new TypeError(`it takes bytes, ${takes}, and not ${kind}`);
     return bytes;
 }
@@ -78,7 +86,10 @@ function givenMemory(act, what) {
     }
 }
 
-function instanceOf(module) {
+// An instance of a module; what is handed in instead, such as the promise of one, is told.
+function instanceOf(module, takes = MODULE) {
+    const kind = kindOf(module);
+    if (kind !== "WebAssembly.Module") throw new TypeError(`it takes ${takes}, and not ${kind}${kind === "Promise" ? ": await it before" : ""}`);
     return givenMemory(() => new WebAssembly.Instance(module), "an instance of the module");
 }
 
@@ -294,7 +305,7 @@ function sharedOf(instance) {
 
 class Decoder {
     constructor(host) {
-        this.shared = sharedOf(host instanceof WebAssembly.Instance ? host : instanceOf(host));
+        this.shared = sharedOf(kindOf(host) === "WebAssembly.Instance" ? host : instanceOf(host, MODULE_OR_INSTANCE));
         this.handle = this.shared.handle();
         if (this.call("tamligub_open") !== 0) {
             this.close();

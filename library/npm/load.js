@@ -30,5 +30,11 @@ function placeOf(source) {
 // The module that an answer brings.
 async function compiledOf(answer, place) {
     if (!answer.ok) throw new Error(`${place}: status ${answer.status}`);
-    return WebAssembly.compile(await answer.arrayBuffer());
+    const bytes = await answer.arrayBuffer();
+    try {
+        return await WebAssembly.compile(bytes);
+    } catch (fault) {
+        // Some servers answer whatever they don't have with a page.
+        throw new Error(`${place}: it can't be taken as a WebAssembly module: ${fault.message}`, { cause: fault });
+    }
 }

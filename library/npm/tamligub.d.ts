@@ -171,7 +171,8 @@ export class BadLine extends Error {
 export function load(source?: WebAssembly.Module | BufferSource | Response | URL | string): Promise<WebAssembly.Module>;
 
 /** Runs the program on a word, such as "show" or "changes", and what is given after it. Nothing is kept between calls. A RangeError is thrown
- * of a number that isn't whole or out of its range, a TypeError of a page that isn't bytes, null among them. */
+ * of a number that isn't whole or out of its range, a TypeError of a page that isn't bytes, null among them, and of what is no module, such as
+ * the promise of one. */
 export function run(module: WebAssembly.Module, word: string, given?: Given): Answer;
 
 /** A decoder that is fed bytes as they come, and then edited line by line. Many of them may live in one instance. What can't be done is thrown:

@@ -9,6 +9,8 @@ import re
 import subprocess
 import tempfile
 
+import absent
+
 ROOT = os.path.dirname(os.path.dirname(os.path.dirname(os.path.abspath(__file__))))
 CASES = os.path.join(ROOT, "cases", "run")
 
@@ -29,12 +31,7 @@ LONG_PAGES = ("0", "1", "4294967295")
 TURNS = ("0", "6", "601", "4294967295")
 MOST_TURNS = "600"
 
-
-def program_at(path):
-    """The whole path of the program; the test ends where there is none."""
-    if not (os.path.isfile(path) and os.access(path, os.X_OK)):
-        raise SystemExit(f"there is no program {path}: ./build makes crates/cept_tool/out/cept_tool")
-    return os.path.abspath(path)
+program_at = absent.program_at
 
 
 def library_at(folder):

@@ -63,6 +63,18 @@ function isThrown(call, text) {
     }
 }
 
+// Each call that takes a module says so of what is none, and of the promise of one.
+function sayWhatModulesAre() {
+    const decoders = [(thing) => new Decoder(thing), (thing) => Decoder.restored(thing, new Uint8Array())];
+    const runs = [(thing) => run(thing, "show", { page: new Uint8Array() })];
+    const things = [[undefined, "Undefined"], [new Uint8Array(8), "Uint8Array"], [Promise.resolve(), "Promise: await it before"]];
+    for (const [calls, takes] of [[decoders, "a WebAssembly.Module or an instance of it"], [runs, "a WebAssembly.Module"]]) {
+        for (const [thing, said] of things) {
+            if (!calls.every((call) => isThrown(() => call(thing), `it takes ${takes}, and not ${said}`))) fail(`${said} is taken as a module`);
+        }
+    }
+}
+
 // Each call that takes bytes says so of what is none.
 function sayWhatTheyTake(module, decoder) {
     const bytes = [(data) => decoder.feed(data), (data) => decoder.skim(data), (data) => Decoder.restored(module, data),
@@ -79,6 +91,7 @@ function sayWhatTheyTake(module, decoder) {
             if (!(fault instanceof TypeError) || fault.message !== `it takes bytes, ${said}`) fail(`${call} of ${thing}: ${fault}`);
         }
     }
+    sayWhatModulesAre();
     // Bytes of another context, and those of Node.
     for (const given of [vm.runInNewContext("Uint8Array.of(65)"), Buffer.from("A")]) {
         if (new Decoder(module).feed(given).length !== 1) fail("bytes of another kind say nothing");

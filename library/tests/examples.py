@@ -155,6 +155,19 @@ def faults_are_told(tools):
     return right
 
 
+def full_outputs_are_told(tools):
+    """Whether the examples that write a whole text or picture say that it can't be written, and end with status 1."""
+    right, page = True, os.path.join(ROOT, "pages", "title.btx")
+    for name in ("example", "example_dots", "example_feed"):
+        words = [tools[name], page] if name == "example" else [tools[name]]
+        with open(page, "rb") as given, open("/dev/full", "wb") as full:
+            done = subprocess.run(words, stdin=given, stdout=full, stderr=subprocess.PIPE)
+        if done.returncode != 1 or not done.stderr.decode().startswith(f"{name}: "):
+            print(f"{name} into a full output: status {done.returncode}, {done.stderr!r}")
+            right = False
+    return right
+
+
 def terminal_is_put_back(tool):
     """Whether a terminal has echo, lines and its cursor after the end of the line, Ctrl C and SIGTERM; and return is sent as 0D."""
     right = True
@@ -213,10 +226,10 @@ def exports_are_right(library):
 
 def are_right(program, library, build):
     """Whether the examples do what they say; `build` makes one of them by its name."""
-    tools = {name: build(name) for name in ("example_feed", "example_live", "example_dots")}
+    tools = {name: build(name) for name in ("example", "example_feed", "example_live", "example_dots")}
     good = [
         feeds(program, tools["example_feed"]), dots_are_right(program, tools["example_dots"]), terminal_is_right(program, tools["example_live"]),
-        an_absent_host_is_told(tools["example_live"]), faults_are_told({**tools, "example": build("example")}),
+        an_absent_host_is_told(tools["example_live"]), faults_are_told(tools), full_outputs_are_told(tools),
         terminal_is_put_back(tools["example_live"]), exports_are_right(library),
     ]
     return all(good)

@@ -37,7 +37,8 @@ def text_of(word: str, page: bytes | None = None, script: bytes | None = None, n
     if status == binding.NOT_SEVEN:
         raise NotSeven("the page isn't in seven bits")
     if status == binding.TOO_LONG:
-        raise TooLong("the page has more than 2^24 bytes, or the script more than 2^20")
+        other = "" if script is None else f", or the {'drawing' if word == 'plot' else 'script'} more than 2^20"
+        raise TooLong(f"the page has more than 2^24 bytes{other}")
     raise ValueError(f"{word} doesn't take what it was given")
 
 
