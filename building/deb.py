@@ -121,7 +121,7 @@ def symbols():
 
 def asked(*words):
     """What another program prints; where it fails, what it says of that."""
-    done = subprocess.run(words, capture_output=True, text=True)
+    done = subprocess.run(words, capture_output=True, text=True, errors="surrogateescape")
     if done.returncode:
         raise Failed(f"{words[0]} failed: {done.stderr.strip()}")
     return done.stdout.strip()

@@ -49,7 +49,9 @@ def made_known(prefix):
         if not shutil.which(notes.command):
             yield f"{notes.command} isn't on this machine (Debian: apt-get install {notes.package})"
     share = os.path.join(prefix, "share")
-    if share not in [os.path.normpath(one) for one in searched()]:
+    if os.pathsep in share:
+        yield f"it looks in no folder with {os.pathsep} in its name, which XDG_DATA_DIRS can't name"
+    elif share not in [os.path.normpath(one) for one in searched()]:
         yield f"it looks there only where its login has: XDG_DATA_DIRS={shlex.quote(share)}:${{XDG_DATA_DIRS:-{SHARED}}}"
     if not f"{prefix}/".startswith("/usr/"):
         yield "GNOME makes small pictures by programs within /usr alone: they take a prefix there, such as /usr/local"

@@ -14,7 +14,10 @@ def found():
     command = shutil.which("rt")
     if not command:
         raise Stop("the Rattle kit isn't on this machine: its command rt isn't on the PATH")
-    return os.path.dirname(os.path.dirname(os.path.realpath(command)))
+    folder = os.path.dirname(os.path.dirname(os.path.realpath(command)))
+    if not os.path.isdir(os.path.join(folder, "toolchain")):
+        raise Stop(f"the command rt on the PATH, {command}, isn't that of the Rattle kit: {folder} has no toolchain")
+    return folder
 
 
 def linked(folder, to, without):

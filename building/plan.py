@@ -82,7 +82,7 @@ class Plan:
     def beginning(self):
         """What is said before the first crate. Which of them earlier runs have proved shows only as they are taken."""
         whole = f"{at_most(self.whole)} of proof on {self.lanes} processors"
-        return f"{self.total} crates, {whole}; what an earlier run on this machine has proved is only taken"
+        return f"{self.total} crates, {whole}; what an earlier run on this machine has proved is only taken, except tamligub"
 
     def ahead(self):
         """What is said of the crates that are neither proved nor taken yet, of which more may be taken."""

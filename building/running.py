@@ -4,7 +4,7 @@ import os
 import signal
 import subprocess
 
-from building import Stop, tell
+from building import Stop, put_out, tell
 
 PATIENCE = 5
 
@@ -58,11 +58,11 @@ def main(make):
     """Runs a build, and prints the paths of what it made."""
     try:
         heed_ends()
-        print(*make(), sep="\n")
+        put_out(*make())
     except Stop as why:
         raise SystemExit(f"build: {why}")
     except OSError as fault:
-        raise SystemExit(f"build: {fault.filename}: {fault.strerror}")
+        raise SystemExit(": ".join(filter(None, ["build", fault.filename, fault.strerror or str(fault)])))
     except KeyboardInterrupt:
         tell("interrupted")
         signal.signal(signal.SIGINT, signal.SIG_DFL)

@@ -26,7 +26,9 @@ Cflags: -I"${{includedir}}"
 
 def pkg_config(prefix, libdir, includedir, version, is_searched):
     """What pkg-config reads. Of a folder that the system doesn't search for libraries, programs are told where it is."""
-    path = "" if is_searched else '-Wl,-rpath,"${libdir}" '
+    # A comma parts what -Wl hands to a linker.
+    way = "-Xlinker -rpath=" if "," in prefix else "-Wl,-rpath,"
+    path = "" if is_searched else way + '"${libdir}" '
     # Else it takes the sign for the beginning of a comment, or the end of what is quoted.
     escaped = re.sub(r'([#"\\])', r"\\\1", prefix)
     return PKG_CONFIG.format(prefix=escaped, libdir=libdir, includedir=includedir, version=version, path=path)

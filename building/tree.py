@@ -105,27 +105,27 @@ class Tree:
             put(self.path(place), file.make)
 
     def put_list(self, files, folders):
-        """Writes a list of what is under the prefix."""
+        """Writes a list of what is under the prefix. Folders that it needs come with it at once, so that none stands without a list."""
         lines = [*files, LIST, *(folder + "/" for folder in folders)]
-        os.makedirs(os.path.dirname(self.path(LIST)), exist_ok=True)
-        put(self.path(LIST), File("".join(line + "\n" for line in dict.fromkeys(lines)).encode(), 0o644).make)
+        file = File("".join(line + "\n" for line in dict.fromkeys(lines)).encode(), 0o644)
+        outer, place = begun(self.prefix)
+        if place:
+            put_folder(outer, place, file)
+        else:
+            put(outer, file.make)
 
-    def put_first_list(self, files, folders, made):
+    def put_first_list(self, files, folders):
         """Writes a list of what may be under the prefix until all is written: that of an earlier install too, and files that are being
-        written. Where that fails no folder stays that was made for it."""
+        written."""
         ours = (*self.files, LIST)
-        try:
-            self.put_list([*files, *ours, *(place + NEW for place in ours)], folders)
-        except BaseException:
-            take_away(self.prefix, [], made)
-            raise
+        self.put_list([*files, *ours, *(place + NEW for place in ours)], folders)
 
     def install(self, replaces):
         """Writes all, takes away what an earlier install left and this one didn't, and writes the list of what is there."""
         files, folders = listed(self.prefix)
         self.check(set(files), replaces)
         made = self.missing()
-        self.put_first_list(files, [*folders, *made], made)
+        self.put_first_list(files, [*folders, *made])
         self.lay()
         take_away(self.prefix, [place for place in files if place not in self.files], [])
         self.put_list(self.files, [*folders, *made])
@@ -163,6 +163,32 @@ def put(path, make):
         raise
 
 
+def put_folder(path, place, file):
+    """A folder with a file at a place in it, at once: by another name first. Where it fails nothing of it stays, and the fault names the
+    path."""
+    take_away(path + NEW, [place], above(place))
+    try:
+        os.makedirs(os.path.dirname(os.path.join(path + NEW, place)))
+        file.make(os.path.join(path + NEW, place))
+        os.rename(path + NEW, path)
+    except BaseException as fault:
+        take_away(path + NEW, [place], above(place))
+        if isinstance(fault, OSError):
+            fault.filename = path
+        raise
+
+
+def begun(prefix):
+    """What an install puts first: the outermost folder above its list that isn't there, and the list's place in that; the list itself and
+    no place where it has its folder."""
+    path = os.path.abspath(path_of(prefix, LIST))
+    names: list[str] = []
+    while not os.path.isdir(os.path.dirname(path)):
+        path, name = os.path.split(path)
+        names.insert(0, name)
+    return path, "/".join(names)
+
+
 def listed(prefix):
     """The files that are installed under a prefix, the list aside, and the folders that were made, outer ones first."""
     path = os.path.join(prefix, LIST)
@@ -182,8 +208,11 @@ def take_away(prefix, files, folders):
 
 
 def take_begun(prefix):
-    """Takes away the list of an install that ended before it was written, with the folder that has nothing else."""
-    if os.path.isfile(path_of(prefix, LIST + NEW)):
+    """Takes away the list of an install that ended before it was written, with the folders that came with it or have nothing else."""
+    outer, place = begun(prefix)
+    if place:
+        take_away(outer + NEW, [place], above(place))
+    elif os.path.isfile(outer + NEW):
         take_away(prefix, [LIST + NEW], [os.path.dirname(LIST)])
 
 
