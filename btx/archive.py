@@ -1,13 +1,14 @@
 """Makes a website of a collection of stored pages: the viewer for each, an index with small pictures, and a report. It may be
 stopped and started again, and then goes on."""
 import argparse
+import contextlib
 import dataclasses
+import fcntl
 import os
-import sys
-from collections.abc import Iterable
+from collections.abc import Iterable, Iterator
 from types import ModuleType
 
-from btx import collection, debian, files, html_file, jobs, lists, making, numbers, pillow, program, progress, viewer, website
+from btx import collection, debian, files, html_file, jobs, lists, making, numbers, pillow, program, progress, say, viewer, website
 from btx.statuses import NOT_THERE, Status
 
 SUMMARY = "a website of a folder of pages, with an index and a report"
@@ -33,10 +34,6 @@ def arguments(parser: argparse.ArgumentParser) -> None:
     parser.add_argument("--jobs-by", choices=("btx", "parallel"), default="btx", help="what runs the jobs; parallel is GNU parallel")
     parser.add_argument("--sshlogin", metavar="LOGIN", action="append", default=[], help="a machine for parallel; may stand several times")
     parser.add_argument("--remote", metavar="COMMAND", help="what btx is called on the machines of parallel")
-
-
-def say(text: str) -> None:
-    print(f"btx: archive: {text}", file=sys.stderr)
 
 
 def is_inside(path: str, folder: str) -> bool:
@@ -68,6 +65,23 @@ def fault_of(options: argparse.Namespace) -> Fault | None:
     return None
 
 
+@contextlib.contextmanager
+def alone(out: str) -> Iterator[None]:
+    """Holds the folder of a website, as far as its file system can: two runs would take each other's files away."""
+    os.makedirs(out, exist_ok=True)
+    folder = os.open(out, os.O_RDONLY)
+    try:
+        fcntl.flock(folder, fcntl.LOCK_EX | fcntl.LOCK_NB)
+    except BlockingIOError:
+        raise OSError(0, "another run of archive makes this website now", html_file.shown_name(out)) from None
+    except OSError:
+        pass
+    try:
+        yield
+    finally:
+        os.close(folder)
+
+
 def known(site: website.Website, here: collection.Collection, name: str) -> making.Facts | None:
     """The facts of a page that is made already of the very bytes that it has, or None."""
     facts = site.whole(name)
@@ -82,7 +96,7 @@ def painter() -> ModuleType | None:
     try:
         return pillow.image()
     except debian.Missing as fault:
-        say(f"no small pictures are made: {fault}")
+        say(f"archive: no small pictures are made: {fault}")
         return None
 
 
@@ -170,12 +184,14 @@ def run(path: program.Runner, options: argparse.Namespace) -> int:
         said = f"there is no page in it, named {' '.join(options.pattern or collection.PATTERNS)}"
         fault = Status.UNREAD, f"{html_file.shown_name(options.folder)}: {said}" + (f"; {aside}" if aside else "")
     if fault:
-        say(fault[1])
+        say(f"archive: {fault[1]}")
         return fault[0]
     files.write_utf8()
-    archive = Archive(options, here)
-    lacking = archive.make(path)
+    with alone(options.output):
+        archive = Archive(options, here)
+        lacking = archive.make(path)
     archive.told()
     if lacking:
-        say(f"{lacking:,} pages were not made{jobs.needs(options)}; the same command goes on with them")
+        unmade = f"{collection.several(lacking, 'page was', 'pages were')} not made{jobs.needs(options)}"
+        say(f"archive: {unmade}; the same command goes on with {'it' if lacking == 1 else 'them'}")
     return Status.NO_ROOM if lacking else 0

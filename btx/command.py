@@ -1,14 +1,15 @@
 """The words of btx: those of the program pass through, the others stand in modules of their own."""
 import argparse
+import itertools
 import os
 import signal
 import sys
 import textwrap
 from collections.abc import Callable, Sequence
-from typing import NoReturn, Protocol
+from typing import Any, NoReturn, Protocol
 
 from btx import VERSION, archive, cast, check_script, completion, cut, diff, editor, files, film, host, html_file, jobs, library, line
-from btx import messages, near, passing, picture, program, say, svg, telling, terminal, viewer
+from btx import messages, near, passing, picture, program, put_apart, say, svg, telling, terminal, viewer
 from btx.statuses import NOT_THERE, Status
 
 
@@ -31,7 +32,8 @@ OWN: dict[str, Own] = {
 }
 KNOWN = (*program.WORDS, *OWN, "help")
 # The options that stand without a word.
-ALONE = ("-h", "--help", "--version")
+HELP = ("-h", "--help")
+ALONE = (*HELP, "--version")
 # Words that do without the program, and are given an empty path.
 BY_THEMSELVES = ("viewer", "editor", "line", "cut", "host", "completion")
 # The options that are names of files or folders and are read by the words themselves.
@@ -53,6 +55,16 @@ class Help(argparse.HelpFormatter):
         )
 
 
+class Parser(argparse.ArgumentParser):
+    """Tells where its help can't be written, as any other output."""
+
+    def _print_message(self, message: str, file: Any = None) -> None:
+        if file is sys.stdout:
+            file.write(message)
+        else:
+            put_apart(message)
+
+
 def explained(word: str, manuals: dict[str, str]) -> str:
     """Which man pages explain a word of the program."""
     kind = "drawing" if word == "plot" else "script"
@@ -63,7 +75,7 @@ def explained(word: str, manuals: dict[str, str]) -> str:
 def parsers() -> argparse.ArgumentParser:
     """The parser of all words; each word's own has its help."""
     manuals = {name: program.manual(name) for name in ("btx", program.NAME)}
-    parser = argparse.ArgumentParser(
+    parser = Parser(
         prog="btx", description="Shows, checks and edits stored Bildschirmtext pages.", epilog=EPILOG.format(**manuals), allow_abbrev=False,
         formatter_class=Help,
     )
@@ -129,6 +141,20 @@ def spelled(words: Sequence[str]) -> Sequence[str]:
     return ["terminal", *words] if first not in KNOWN and not first.startswith("--") and is_page(first) else words
 
 
+def is_asked_for_help(words: Sequence[str]) -> bool:
+    """Whether an option among some words asks for help."""
+    options = itertools.takewhile(lambda one: one != passing.NAMES_FOLLOW, words)
+    return any(one in HELP for one in options)
+
+
+def bad_name(options: argparse.Namespace) -> str:
+    """What is wrong with a name of a file or a folder, or nothing."""
+    if "" in (getattr(options, name, None) for name in NAMES):
+        return messages.EMPTY
+    lost = files.written_over(getattr(options, "output", None), *getattr(options, "pages", [getattr(options, "page", "")]))
+    return messages.lost(lost) if lost else ""
+
+
 def run(words: Sequence[str], beside: str) -> int:
     parser = parsers()
     if not words or words == [passing.NAMES_FOLLOW]:
@@ -136,7 +162,7 @@ def run(words: Sequence[str], beside: str) -> int:
         return 2
     words = spelled(words)
     word, rest = words[0], words[1:]
-    if word in program.WORDS and rest[:1] not in (["--help"], ["-h"]):
+    if word in program.WORDS and not is_asked_for_help(rest):
         return guarded(program_for(beside), word, passing.run, word, rest)
     if word == "help":
         say(f"help: takes one word after it, WORD, or none, and not {len(rest)}\nusage: btx help [WORD]")
@@ -154,8 +180,9 @@ def run(words: Sequence[str], beside: str) -> int:
         getattr(options, "own", parser).error("unrecognized arguments: " + " ".join(unknown_words))
     if getattr(options, "output", None) == "":
         options.own.error("-o takes a name after it, and this one is empty")
-    if "" in (getattr(options, name, None) for name in NAMES):
-        say(f"{word}: a name is empty")
+    bad = bad_name(options)
+    if bad:
+        say(f"{word}: {bad}")
         return Status.USAGE
     options.beside, options.parser = beside, parser
     path = "" if options.word in BY_THEMSELVES else program_for(beside)
@@ -164,13 +191,13 @@ def run(words: Sequence[str], beside: str) -> int:
 
 def ended(words: Sequence[str], beside: str) -> int:
     """Runs the words, and writes what is left of the output. Where that can't be done it says so once: nothing of it is tried again."""
+    status: int = Status.DONE
     try:
-        status = run(words, beside)
-    except SystemExit as end:
-        status = end.code if isinstance(end.code, int) else 0
-    try:
-        if sys.stdout:
-            sys.stdout.flush()
+        try:
+            status = run(words, beside)
+        except SystemExit as end:
+            status = end.code if isinstance(end.code, int) else 0
+        sys.stdout.flush()
     except BrokenPipeError:
         raise
     except OSError as fault:
@@ -181,6 +208,7 @@ def ended(words: Sequence[str], beside: str) -> int:
 
 
 def main(words: Sequence[str], beside: str) -> NoReturn:
+    files.hold_streams()
     try:
         status = ended(words, beside)
     except program.Missing as fault:

@@ -204,6 +204,8 @@ def run(_: object, options: argparse.Namespace) -> int:
         raise OSError(0, "it has no times beside it; --all does without", "standard input")
     if not options.all and not os.path.exists(name + recording.TIMES) and os.path.exists(name):
         raise OSError(0, f"it has no times beside it, {os.path.basename(name)}{recording.TIMES}; --all does without", name)
+    if os.path.isdir(folder) and any(one.endswith(".btx") for one in os.listdir(folder)):
+        raise OSError(0, "there are pages in it already", folder)
     try:
         data = recorded(name)
         pages = made(options, data)
@@ -214,6 +216,4 @@ def run(_: object, options: argparse.Namespace) -> int:
         say(f"cut: {name}: there is not enough memory for so long a recording; head -c makes a front of it")
         return Status.NO_MEMORY
     os.makedirs(folder, exist_ok=True)
-    if any(one.endswith(".btx") for one in os.listdir(folder)):
-        raise OSError(0, "there are pages in it already", folder)
     return write(pages, data, options)

@@ -10,12 +10,12 @@ import threading
 from collections.abc import Iterator
 from typing import IO
 
-from btx import program, say
+from btx import ERRORS, program, say
 
 STANDARD = "-"
 # How the names begin of what this process has open; another has something else by them.
 OWN = ("/dev/stdin", "/dev/fd/", "/proc/self/")
-INPUT = 0
+INPUT, OUTPUT = 0, 1
 MOST_PAGE = 2**24
 # After so many seconds it is said that a pipe is waited for.
 PATIENCE = 1
@@ -23,6 +23,20 @@ PATIENCE = 1
 
 class Dropped(Exception):
     """What was written isn't whole, and isn't kept."""
+
+
+def hold_streams() -> None:
+    """Has no other file take the number of a standard stream that is closed: one is there in its place that can't be read or written, and for
+    messages one that keeps nothing."""
+    for number, mode in enumerate((os.O_WRONLY, os.O_RDONLY, os.O_WRONLY)):
+        try:
+            os.fstat(number)
+        except OSError:
+            os.dup2(os.open(os.devnull, mode), number)
+            os.set_inheritable(number, True)
+    sys.stdin = sys.stdin or open(INPUT, encoding="utf-8", closefd=False)
+    sys.stdout = sys.stdout or open(OUTPUT, "w", encoding="utf-8", closefd=False)
+    sys.stderr = sys.stderr or open(ERRORS, "w", encoding="utf-8", errors="backslashreplace", closefd=False)
 
 
 def mode_of(name: str) -> int:
@@ -69,10 +83,12 @@ def read(name: str, most: int) -> bytes:
 
 @contextlib.contextmanager
 def copy_of(data: bytes) -> Iterator[str]:
-    """The name of a file with these bytes, which goes away."""
-    with tempfile.NamedTemporaryFile(prefix="btx-") as file:
-        file.write(data)
-        file.flush()
+    """The name of a file with these bytes, which goes away. Why it can't be written, as on a full disk, is raised with its name."""
+    with tempfile.NamedTemporaryFile(prefix="btx-", buffering=0) as file:
+        try:
+            put_all(file.fileno(), data)
+        except OSError as fault:
+            raise OSError(fault.errno, fault.strerror, file.name) from None
         yield file.name
 
 
@@ -126,9 +142,16 @@ def mode_for(path: str) -> int:
     return 0o666 & ~mask
 
 
+def written_over(output: str | None, *names: str) -> str | None:
+    """Which of some files that are read is the one that an output replaces, or None."""
+    return next((name for name in names if output and is_plain(name) and is_plain(output) and os.path.samefile(name, output)), None)
+
+
 @contextlib.contextmanager
 def replacing(path: str) -> Iterator[IO[bytes]]:
-    """A new file that takes the place of one once all is written."""
+    """A new file that takes the place of one once all is written. A name that ends in / is that of a folder."""
+    if path.endswith(os.sep):
+        raise OSError(0, "no such folder", path)
     target = os.path.realpath(path)
     try:
         file = tempfile.NamedTemporaryFile(prefix=".btx-", dir=os.path.dirname(target), delete=False)
@@ -137,8 +160,11 @@ def replacing(path: str) -> Iterator[IO[bytes]]:
     try:
         with file:
             yield file
-        os.chmod(file.name, mode_for(target))
-        os.replace(file.name, target)
+        try:
+            os.chmod(file.name, mode_for(target))
+            os.replace(file.name, target)
+        except OSError as fault:
+            raise OSError(fault.errno, fault.strerror, path) from None
     except BaseException:
         os.unlink(file.name)
         raise

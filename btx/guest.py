@@ -29,15 +29,16 @@ def foot(data: bytes) -> bytes:
 
 
 class Pages:
-    """The stored pages of a folder, by number and part. Where no name is a number, the pages have the numbers from 0 on in the order of
-    their names."""
+    """The stored pages of a folder, by number and part; of a pipe or a device a guest would wait for ever. Where no name is a number, the
+    pages have the numbers from 0 on in the order of their names."""
 
     def __init__(self, folder: str) -> None:
-        names = sorted(name for name in os.listdir(folder) if name.endswith(".btx"))
+        names = sorted(name for name in os.listdir(folder) if name.endswith(".btx") and os.path.isfile(os.path.join(folder, name)))
         found = [(PAGE.fullmatch(name), name) for name in names]
         self.folder, self.names = folder, {(match[1], match[2]): name for match, name in found if match}
         if not self.names:
             self.names = {(str(number), ""): name for number, name in enumerate(names)}
+        self.left = sorted(set(names) - set(self.names.values()))
         if self.first() is None:
             raise OSError(0, self.why_none(), folder)
 
@@ -49,8 +50,9 @@ class Pages:
         return f"no page in it has its first part; {name} is a later one, after {number}.btx"
 
     def listed(self) -> list[str]:
-        """The numbers with the names, in order, where these don't say them."""
-        return [f"*{number}# {name}" for (number, _), name in self.names.items() if not PAGE.fullmatch(name)]
+        """The numbers with the names, in order, where these don't say them; else which names have no number, or that of another."""
+        lines = [f"*{number}# {name}" for (number, _), name in self.names.items() if not PAGE.fullmatch(name)]
+        return lines + [f"no number shows {name}" for name in self.left]
 
     def first(self) -> str | None:
         """The page 0, or else the one with the lowest number; None where there is no page."""

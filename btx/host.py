@@ -149,7 +149,7 @@ class Host:
             # The guest left while bytes went out to it, as others do who end their line.
             return
         except OSError as fault:
-            say(f"host: {line.name} is dropped: {messages.why(fault)}")
+            say("host: " + ": ".join(filter(None, [f"{line.name} is dropped", fault.filename, messages.why(fault)])))
         except asyncio.CancelledError:
             # The run ends, and all lines with it.
             return
@@ -173,9 +173,11 @@ async def server_of(host: Host, options: argparse.Namespace) -> Any:
         raise OSError(*wire.UNKNOWN) from None
 
 
-async def listen(options: argparse.Namespace) -> None:
+async def listen(options: argparse.Namespace, pages: guest.Pages) -> None:
     """Serves guests until the run is ended."""
     server = await server_of(Host(options), options)
+    for line in pages.listed():
+        say(f"host: {line}")
     address, chosen = server.sockets[0].getsockname()[:2]
     speed = f"{options.bits} bit/s" if options.bits else "at once"
     where, near = named(address, chosen), named(NEAR.get(address, address), chosen)
@@ -185,10 +187,9 @@ async def listen(options: argparse.Namespace) -> None:
 
 
 def run(_: object, options: argparse.Namespace) -> int:
-    for line in guest.Pages(options.folder).listed():
-        say(f"host: {line}")
+    pages = guest.Pages(options.folder)
     try:
-        asyncio.run(listen(options))
+        asyncio.run(listen(options, pages))
     except debian.Missing as fault:
         say(f"host: {fault}")
         return NOT_THERE

@@ -2,6 +2,7 @@
 import argparse
 import base64
 import concurrent.futures
+import contextlib
 import dataclasses
 import itertools
 import json
@@ -13,13 +14,15 @@ import threading
 from collections.abc import Iterator, Sequence
 from typing import IO
 
-from btx import collection, making, program
+from btx import ERRORS, collection, files, making, program
 from btx.website import Website
 
 WORKER = ["archive", "--worker"]
 # The login by which parallel knows this machine.
 HERE = ":"
 PAGES_A_JOB = 8
+# So many seconds after its end what was said is waited for, which something that it left behind may hold open.
+LAST = 5
 # So many pages a job are handed over before they are begun.
 AHEAD = 4
 # The name and the facts of a page that is made.
@@ -94,7 +97,7 @@ def needs(options: argparse.Namespace) -> str:
     if options.jobs_by != "parallel":
         return ""
     command = f"start btx by the command {remote(options)}, which --remote can change"
-    return f", and parallel says why: each machine must let you in without a question, and {command}"
+    return f": each machine must let you in without a question, and {command}"
 
 
 def parallel_words(options: argparse.Namespace) -> list[str]:
@@ -113,16 +116,32 @@ def result_of(line: str) -> tuple[int, making.Made] | None:
         return None
 
 
+def hand_on(reading: int) -> None:
+    """Says what parallel and its jobs say, each line once, since all jobs of a machine say the same."""
+    said: set[bytes] = set()
+    with open(reading, "rb") as file:
+        for line in file:
+            if line not in said:
+                said.add(line)
+                with contextlib.suppress(OSError):
+                    files.put_all(ERRORS, line)
+
+
 def by_parallel(website: Website, here: collection.Collection, names: Sequence[str], words: Sequence[str]) -> Iterator[Result]:
     """The same by GNU parallel: pages go to its jobs and results come back over their input and output. What else comes back, as from a run
     that was cut off in the middle of a line, is passed over; its pages are lacking then."""
     sent = Sent(here, names, website.has_module)
-    runner = subprocess.Popen(
-        [*program.ending_with_us("TERM"), *words], stdin=subprocess.PIPE, stdout=subprocess.PIPE, text=True, encoding="ascii", errors="replace"
-    )
+    reading, saying = os.pipe()
+    with open(saying, "wb") as said:
+        runner = subprocess.Popen(
+            [*program.ending_with_us("TERM"), *words], stdin=subprocess.PIPE, stdout=subprocess.PIPE, stderr=said, text=True,
+            encoding="ascii", errors="replace",
+        )
     assert runner.stdout is not None, "it is a pipe"
     feeder = threading.Thread(target=sent.feed, args=(runner.stdin,), daemon=True)
+    teller = threading.Thread(target=hand_on, args=(reading,), daemon=True)
     feeder.start()
+    teller.start()
     try:
         for line in runner.stdout:
             result = result_of(line)
@@ -134,6 +153,7 @@ def by_parallel(website: Website, here: collection.Collection, names: Sequence[s
     finally:
         runner.stdout.close()
         runner.wait()
+        teller.join(LAST)
 
 
 def work(path: program.Runner) -> int:

@@ -3,6 +3,7 @@ Keys are sent as bytes, and Ctrl C leaves. What came can be kept as a stored pag
 than paint: what it sends is decoded, and looks are painted."""
 import argparse
 import contextlib
+import fcntl
 import os
 import select
 import signal
@@ -295,13 +296,12 @@ def keys_for(line: wire.Line) -> int | None:
 
 
 def keep_input(name: wire.Name) -> None:
-    """Has something stand as standard input where that is closed: else the line would have its number, and be read as keys."""
-    try:
-        os.fstat(files.INPUT)
-    except OSError:
-        if name.text == files.STANDARD:
-            raise OSError(0, "that is standard input, and it is closed", name.text) from None
-        os.open(os.devnull, os.O_RDONLY)
+    """Has something stand as standard input that ends at once where that can't be read, as where it is closed."""
+    if fcntl.fcntl(files.INPUT, fcntl.F_GETFL) & (os.O_WRONLY | os.O_RDWR) != os.O_WRONLY:
+        return
+    if name.text == files.STANDARD:
+        raise OSError(0, "that is standard input, and it is closed", name.text)
+    os.dup2(os.open(os.devnull, os.O_RDONLY), files.INPUT)
 
 
 def hold(session: Session, signals: glass.Signals) -> End:

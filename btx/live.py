@@ -12,7 +12,7 @@ from btx import looks, program
 
 ROOM_FOR_A_BYTE = 1920
 ROOM = 4 * ROOM_FOR_A_BYTE
-GOOD, NO_ROOM = 0, 5
+GOOD, NO_ROOM, NO_MEMORY = 0, 5, 6
 # The records of the header: their sizes, and where in a notice its place, its look and its pattern stand.
 SIZE_OF_NOTICE, SIZE_OF_STATE = 184, 40
 ROW, COLUMN, LOOK, PATTERN, FORM, COLOURS = 11, 12, slice(13, 33), 40, 112, 116
@@ -57,8 +57,9 @@ class Full(Exception):
 def place() -> str | None:
     """Where the library stands, or None."""
     named = os.environ.get(shared.VARIABLE)
-    places = [named] if named else map(shared.standing, BESIDE)
-    return next((one for one in places if one and os.path.isfile(one)), None)
+    if named:
+        return os.path.abspath(named) if os.path.isfile(named) else named
+    return next(filter(None, map(shared.standing, BESIDE)), None)
 
 
 def missing() -> program.Missing:
@@ -75,11 +76,16 @@ def missing() -> program.Missing:
 
 @functools.lru_cache(None)
 def library() -> ctypes.CDLL:
-    """The calls of the library, as the package for Python has them."""
+    """The calls of the library, as the package for Python has them. Of one that isn't named the system says why it can't be loaded."""
     path, binding = place(), shared.binding()
     if path is None or binding is None:
         raise missing()
-    calls: ctypes.CDLL = binding.at(os.path.abspath(path))
+    try:
+        calls: ctypes.CDLL = binding.at(path)
+    except (OSError, AttributeError) as fault:
+        if isinstance(fault, OSError) and not os.environ.get(shared.VARIABLE):
+            raise
+        raise missing() from None
     return calls
 
 
@@ -143,8 +149,9 @@ class Live:
     def restored(cls, snapshot: bytes) -> Live:
         """A decoder in the state that a snapshot has."""
         one = cls()
-        if one.calls.tamligub_restore(one.handle, snapshot, len(snapshot)) != GOOD:
-            raise ValueError("this is no snapshot")
+        status = one.calls.tamligub_restore(one.handle, snapshot, len(snapshot))
+        if status != GOOD:
+            raise MemoryError("there is no memory for a decoder") if status == NO_MEMORY else ValueError("this is no snapshot")
         return one
 
     def told(self) -> looks.Cells:
@@ -210,16 +217,16 @@ class Live:
             if status == GOOD:
                 return out.raw[: self.number.value]
             if status != NO_ROOM:
-                raise ValueError(fault)
+                raise MemoryError("there is no memory for the bytes") if status == NO_MEMORY else ValueError(fault)
             room *= 4
 
     def write(self) -> bytes:
         """The page as bytes, which bring it back on a reset decoder."""
-        return self.text(self.calls.tamligub_write, "there is no memory for the page")
+        return self.text(self.calls.tamligub_write, "no decoder is open")
 
     def snapshot(self) -> bytes:
         """All of the state as bytes."""
-        return self.text(self.calls.tamligub_snapshot, "the page has ended, or there is no memory")
+        return self.text(self.calls.tamligub_snapshot, "the page has ended")
 
     def close(self) -> None:
         self.calls.tamligub_close(self.handle)

@@ -63,8 +63,8 @@ class Unread(Exception):
         self.facts = facts
 
 
-def unreadable(why: str, size: int | None = None) -> Facts:
-    return Facts(size, Status.UNREAD, f"can't be read: {why}")
+def unreadable(why: str) -> Facts:
+    return Facts(None, Status.UNREAD, f"can't be read: {why}")
 
 
 def unreadable_folder(why: str) -> Facts:
@@ -82,7 +82,7 @@ def stored(source: str) -> bytes:
     try:
         about = os.stat(source)
         if not stat.S_ISREG(about.st_mode):
-            raise Unread(unreadable("it is no plain file", about.st_size))
+            raise Unread(unreadable("it is no plain file"))
         if about.st_size > messages.MOST_PAGE:
             raise Unread(ended(about.st_size, Status.TOO_LONG))
         with open(source, "rb") as file:
@@ -172,6 +172,8 @@ def made_of_bytes(path: program.Runner, page: bytes, has_module: bool = False) -
             items, parts = parts_of(path, source, page, has_module)
     except program.Ended as end:
         return ended(size, end.status if end.status >= 0 else SIGNALS - end.status), None
+    except MemoryError:
+        return ended(size, Status.NO_MEMORY), None
     status = Status.REFUSALS if items.refused else Status.DONE
     cells = looks.cells_of(parts["cells"])
     screen = sum_of(parts["cells"].encode("ascii"))

@@ -58,8 +58,9 @@ def fault_of(path: str) -> str | None:
     if path == files.STANDARD:
         return None
     try:
-        with open(path, "rb") as file:
-            file.read(1)
+        # A pipe that was read waits for another who writes it.
+        with open(path, "rb", opener=lambda name, mode: os.open(name, mode | os.O_NONBLOCK)) as file:
+            file.read(0 if files.comes_slowly(path) else 1)
     except FileNotFoundError:
         return "no such file"
     except OSError as fault:
@@ -117,6 +118,11 @@ def no_name(word: str, words: Sequence[str]) -> str:
     """Why a page that was given to a word of btx itself has no name that the program takes."""
     reason = EMPTY if "" in words else not_utf8(word, words) or "the program takes no such name"
     return f"{word}: {reason}"
+
+
+def lost(name: str) -> str:
+    """That the output would replace a file that is read."""
+    return f"-o names {name}, which is read here and would be lost; another name keeps it"
 
 
 def bad_lines(run: Run) -> str:

@@ -113,6 +113,11 @@ def run(path: program.Runner, word: str, words: Sequence[str]) -> int:
         return 2
     out = None if out == files.STANDARD else out
     named = messages.files_of(word, words) if are_request(word, words) else []
+    # A page may be replaced by a page.
+    lost = files.written_over(out, *(named[1:] if word in program.WRITING else named))
+    if lost:
+        say(f"{word}: {messages.lost(lost)}")
+        return Status.USAGE
     with files.patience(*named), given(word, words, out) as handed:
         status = put(path, word, handed.words, out)
         text = messages.sentence(messages.Run(path, word, words, handed), status) if status > 0 else ""

@@ -45,7 +45,7 @@ class Progress:
     def step(self, facts: making.Facts) -> None:
         self.done += 1
         self.refused += facts.status == Status.REFUSALS
-        self.unread += facts.status not in READ
+        self.unread += facts.status not in (*READ, Status.NO_ROOM)
         now = self.clock()
         if self.shown and (now - self.said > EVERY or self.done == self.total):
             self.said = now

@@ -13,6 +13,8 @@ from btx.statuses import NOT_THERE
 SUMMARY = "a file that shows stored pages that are dropped on it, in a browser"
 LIBRARY = os.path.join(program.ROOT, "library")
 MODULE = os.path.join(LIBRARY, "out", "tamligub.wasm")
+# How each module of WebAssembly begins.
+FRONT = b"\0asm"
 # The page that says how one is opened, and those to look at.
 WELCOME = os.path.join(html_file.VIEW, "welcome.btx")
 PAGES = os.path.join(program.ROOT, "pages")
@@ -90,7 +92,10 @@ def write(options: argparse.Namespace, document_with: Callable[[bytes], str]) ->
         say(f"{options.word}: {missing()}; --module can name one")
         return NOT_THERE
     with open(path, "rb") as file:
-        document = document_with(file.read())
+        module = file.read()
+    if not module.startswith(FRONT):
+        raise OSError(0, "this is no module of WebAssembly", path)
+    document = document_with(module)
     with files.output(options.output) as file:
         file.write(document.encode("utf-8"))
     return 0

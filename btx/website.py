@@ -7,7 +7,6 @@ import io
 import json
 import os
 import re
-import shutil
 import threading
 import urllib.parse
 from collections.abc import Iterator
@@ -40,6 +39,8 @@ NO_NAMES = {
 BEGINNING = threading.Lock()
 # The places in the viewer's document for what is each page's own.
 PLACE = re.compile(r"\{(up|part|address|name|title)\}")
+# What the index says where the viewer's folder isn't there, whose style has it away; each page says it too.
+LOST = re.compile(r'<p class="lost">.*?</p>\n', re.DOTALL)
 # The sizes of a page's files by their kinds.
 Sizes = dict[str, int]
 POLICY = "default-src 'none'; img-src blob: data:; style-src 'self'; script-src 'self'"
@@ -75,7 +76,7 @@ def is_foreign(out: str) -> bool:
 
 
 def write_bytes(path: str, data: bytes) -> int:
-    """A file, whole or not at all; answers its size."""
+    """A file, whole or not at all; answers its size. Why it can't be written, as on a full disk, is raised with its name."""
     with BEGINNING:
         os.makedirs(os.path.dirname(path), exist_ok=True)
         part = open(path + ".part", "wb")
@@ -83,9 +84,9 @@ def write_bytes(path: str, data: bytes) -> int:
         with part as file:
             file.write(data)
         os.replace(path + ".part", path)
-    except OSError:
+    except OSError as fault:
         os.unlink(path + ".part")
-        raise
+        raise OSError(fault.errno, fault.strerror, path) from None
     return len(data)
 
 
@@ -104,11 +105,13 @@ def halves(decodes: bool) -> tuple[str, str]:
     """The viewer's document before and after a page's data, with places for what is each page's own; of pages that it decodes, or whose
     texts it has."""
     scripts = (*([MODULE] if decodes else []), "words.js", "viewer.js", SITE, "walk.js")
+    lost = "".join(LOST.findall(html_file.text_of("archive.html")))
     changed = {
         'href="style.css"': 'href="{up}viewer/style.css"',
         "<h1>Tamligub</h1>": '<h1><a href="{up}index.html">Archive</a></h1>',
         '<title data-word="viewer">Tamligub</title>': "<title>{title}</title>",
-        "</header>": '</header>\n<nav id="walk" data-up="{up}" data-part="{part}" data-address="{address}" data-path="{name}">'
+        "</header>": f"</header>\n{lost}"
+        '<nav id="walk" data-up="{up}" data-part="{part}" data-address="{address}" data-path="{name}">'
         "</nav>",
         html_file.MODULE: "".join(f'<script src="{{up}}viewer/{name}"></script>\n' for name in scripts),
     }
@@ -140,7 +143,7 @@ class Website:
         site = html_file.data_of({"title": title})
         write(os.path.join(self.out, "viewer", SITE), f"(window.Tamligub = window.Tamligub || {{}}).site = {site};\n")
         for name in STYLES:
-            shutil.copyfile(os.path.join(html_file.VIEW, name), os.path.join(self.out, "viewer", name))
+            write(os.path.join(self.out, "viewer", name), html_file.text_of(name))
         for name, scripts in scripts_of().items():
             write(os.path.join(self.out, "viewer", name), "".join(scripts))
         if self.module is not None:

@@ -13,6 +13,7 @@ import signal
 import subprocess
 import sys
 import time
+import unittest.mock
 import urllib.parse
 import zlib
 from typing import Any
@@ -119,10 +120,10 @@ class Archive(archives.Case):
         done = self.archive()
         report, names = self.is_whole()
         self.assertEqual(len(report), len(names) + 3)
-        bad = [(name, report[name]["status"], report[name]["meaning"]) for name in ("long.btx", "lost.btx", "pipe.btx")]
+        bad = [(name, *(report[name][key] for key in ("bytes", "status", "meaning"))) for name in ("long.btx", "lost.btx", "pipe.btx")]
         self.assertEqual(bad, [
-            ("long.btx", "7", "too long: more than 16,777,216 bytes"), ("lost.btx", "4", "can't be read: no such file"),
-            ("pipe.btx", "4", "can't be read: it is no plain file"),
+            ("long.btx", "16777217", "7", "too long: more than 16,777,216 bytes"), ("lost.btx", "", "4", "can't be read: no such file"),
+            ("pipe.btx", "", "4", "can't be read: it is no plain file"),
         ])
         self.assertIn(b"21 pages, 1 with refused items, 3 not read", done.stdout)
 
@@ -204,6 +205,11 @@ class Archive(archives.Case):
         self.assertEqual(decoded, parts)
         short = long[: making.LONG]
         self.assertEqual(making.made_of_bytes(stand.program, short, True), making.made_of_bytes(stand.program, short))
+
+    def test_a_page_for_which_there_is_no_memory_stops_nothing(self):
+        with unittest.mock.patch.object(making, "parts_of", side_effect=MemoryError):
+            facts, parts = making.made_of_bytes(stand.program, b"page")
+        self.assertEqual((facts.bytes, facts.status, facts.meaning, parts), (4, 6, "not enough memory", None))
 
     def test_a_stop_leaves_what_goes_on(self):
         # A program that waits at its sixteenth run, after more than one page, and is interrupted there with btx.
@@ -331,9 +337,17 @@ class Archive(archives.Case):
         self.needs("parallel")
         done = self.archive("--jobs-by", "parallel", "--remote", "false", status=5)
         needs = "each machine must let you in without a question, and start btx by the command false, which --remote can change"
-        said = f"18 pages were not made, and parallel says why: {needs}; the same command goes on with them"
+        said = f"18 pages were not made: {needs}; the same command goes on with them"
         self.assertIn(said, done.stderr.decode())
         self.assertIn(b"18 pages, 0 with refused items, 0 not read, 18 not made; 0 were there", done.stdout)
+        self.small("title")
+        said = f"btx: archive: 1 page was not made: {needs}; the same command goes on with it\n"
+        self.assertIn(said, self.archive("--jobs-by", "parallel", "--remote", "false", status=5).stderr.decode())
+
+    def test_what_all_jobs_say_is_said_once(self):
+        self.needs("parallel")
+        done = self.archive("--jobs-by", "parallel", "--remote", "echo such a fault >&2; false", status=5)
+        self.assertEqual(done.stderr.count(b"such a fault\n"), 1, done.stderr)
 
     def over_ssh(self, *words, **more):
         """An archive over two logins of this machine."""

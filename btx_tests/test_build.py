@@ -1,6 +1,7 @@
 """./build and library/build, over a kit that proves nothing: what they hand to it, what they make of what it leaves, what they say, and how
 they end. That the kit proves is its own; test_readme has it compile the quick program, and the gate has it build the library."""
 import contextlib
+import errno
 import io
 import os
 import re
@@ -15,7 +16,7 @@ from typing import Any
 
 import stand
 import stub_kit
-from building import crates, module, npm, plan, proving, shared, whole
+from building import Stop, crates, module, npm, plan, proving, running, shared, whole
 
 CRATES = """low:
 high: low kitlib
@@ -82,7 +83,8 @@ class Build(stand.Case):
         self.assertTrue(os.access(paths[0], os.X_OK))
         for number, name in enumerate(ORDER, 1):
             self.assertIn(f"build: {name} proved, {number} of 4", said)
-        first = r"^build: 4 crates, at most about 35 minutes of proof on \d+ processors; what an earlier run on this machine has proved is only taken$"
+        taken = "what an earlier run on this machine has proved is only taken, except tamligub"
+        first = rf"^build: 4 crates, at most about 35 minutes of proof on \d+ processors; {taken}$"
         self.assertRegex(said.splitlines()[0], first)
         self.assertNotIn("are left", said)
         words = self.text("seen.words").split("\n")
@@ -109,6 +111,10 @@ class Build(stand.Case):
         os.remove(os.path.join(self.tree, "made", "npm", "mine.txt"))
         npm.check(os.path.join(self.tree, "made"))
         self.assertTrue(os.path.exists(os.path.join(self.tree, "library", "npm", "package.json")))
+        # A link isn't replaced at the end, and so is refused at the beginning, wherever it leads.
+        os.rename(os.path.join(self.tree, "made", "npm"), os.path.join(self.tree, "made", "other"))
+        os.symlink("other", os.path.join(self.tree, "made", "npm"))
+        self.assertRaises(Stop, npm.check, os.path.join(self.tree, "made"))
 
     def test_an_end_that_is_ignored_stays_so(self):
         code = "import signal, sys; sys.path.insert(0, '.'); from building import running; running.heed_ends(); print(*map(signal.getsignal, (1, 15)))"
@@ -180,12 +186,34 @@ class Build(stand.Case):
             paths, said = self.run_of(*words, status=1, PATH=f"{os.path.dirname(sys.executable)}:/usr/bin:/bin")
             self.assertEqual((paths, said), ([], "build: the Rattle kit isn't on this machine: its command rt isn't on the PATH\n"))
 
+    def test_another_program_of_the_name_rt(self):
+        os.makedirs(self.path("other", "bin"))
+        command = shutil.copy("/bin/true", self.path("other", "bin", "rt"))
+        paths, said = self.run_of("build", "--quick", status=1, PATH=f"{os.path.dirname(command)}:{self.environment['PATH']}")
+        folder = os.path.realpath(self.path("other"))
+        self.assertEqual(paths, [])
+        self.assertEqual(said, f"build: the command rt on the PATH, {command}, isn't that of the Rattle kit: {folder} has no toolchain\n")
+
+    def test_an_output_that_is_full(self):
+        with open("/dev/full", "wb") as full:
+            done = subprocess.run([os.path.join(self.tree, "build"), "--quick"], stdout=full, stderr=subprocess.PIPE, env=self.environment)
+        self.assertEqual(done.returncode, 1)
+        self.assertEqual(done.stderr.splitlines()[-1], b"build: standard output: No space left on device")
+
     def test_the_quick_program_is_kept_apart(self):
         paths, said = self.run_of("build", "--quick")
         self.assertEqual(paths, [os.path.join(self.tree, "out/quick/cept_tool")])
         self.assertEqual(said, "build: rt try compiles the program unproved, which takes up to a minute\n")
         self.assertEqual(subprocess.run(paths, stdout=subprocess.PIPE).stdout, b"PAGE\n")
         self.assertFalse(os.path.exists(os.path.join(self.tree, "crates/cept_tool/out/cept_tool")))
+
+    def test_a_fault_without_a_file_is_told(self):
+        said = io.StringIO()
+        for words, wanted in (((errno.ENOSPC, "full"), "build: full"), ((errno.ENOENT, "lost", "file"), "build: file: lost")):
+            failing = unittest.mock.Mock(side_effect=OSError(*words))
+            with contextlib.redirect_stderr(said), unittest.mock.patch.object(running, "heed_ends"), self.assertRaises(SystemExit) as end:
+                running.main(failing)
+            self.assertEqual(end.exception.code, wanted)
 
     def test_a_quick_program_that_was_not_made(self):
         self.assertIn("left no program:\nrun=ended", self.run_of("build", "--quick", status=1, STUB="lost")[1])

@@ -1,10 +1,13 @@
 """What an archive takes of a folder, what it says of the rest, and what it does with what is gone."""
 import csv
 import errno
+import fcntl
+import functools
 import hashlib
 import io
 import json
 import os
+import resource
 import shutil
 import signal
 import time
@@ -16,7 +19,7 @@ import archives
 from archives import data_in, entries_in
 import stand
 
-from btx import making, progress, website
+from btx import files as own_files, making, progress, website
 from btx.statuses import Status
 
 NO_UTF_8 = b"stra\xdfe.btx"
@@ -214,11 +217,32 @@ class Taken(archives.Case):
         self.assertFalse(website.is_foreign(self.out))
         self.written("out/viewer/site.js.part", b"(window")
         self.assertFalse(website.is_foreign(self.out))
-        with unittest.mock.patch.object(website.shutil, "copyfile", side_effect=KeyboardInterrupt), self.assertRaises(KeyboardInterrupt):
+        with unittest.mock.patch.object(website, "scripts_of", side_effect=KeyboardInterrupt), self.assertRaises(KeyboardInterrupt):
             website.Website(self.out).begin("")
         self.assertFalse(website.is_foreign(self.out))
         self.archive()
         self.assertEqual(sorted(self.report()), ["a.btx"])
+
+    def test_a_website_that_another_run_makes_now_is_left_to_it(self):
+        self.add("a.btx")
+        os.mkdir(self.out)
+        folder = os.open(self.out, os.O_RDONLY)
+        fcntl.flock(folder, fcntl.LOCK_EX)
+        error = self.archive(status=4).stderr.decode()
+        self.assertEqual((error, os.listdir(self.out)), (f"btx: archive: {self.out}: another run of archive makes this website now\n", []))
+        os.close(folder)
+        self.archive()
+
+    def test_a_full_disk_is_told_with_the_file_that_it_has_no_room_for(self):
+        """One of the website, and one that goes away."""
+        self.add("a.btx")
+        limit = functools.partial(resource.setrlimit, resource.RLIMIT_FSIZE, (1000, 1000))
+        said = f"btx: archive: {self.out}/viewer/style.css: file too large\n"
+        self.assertEqual(self.archive(status=4, preexec_fn=limit).stderr.decode(), said)
+        full = unittest.mock.patch.object(own_files, "put_all", side_effect=OSError(errno.ENOSPC, "No space left on device"))
+        with full, self.assertRaises(OSError) as caught:
+            own_files.copy_of(b"page").__enter__()
+        self.assertIn("/btx-", caught.exception.filename)
 
     def test_names_that_are_no_utf_8_are_read_by_their_bytes(self):
         self.add(NO_UTF_8, "größe.btx")
@@ -334,7 +358,10 @@ class Going(archives.Case):
         with unittest.mock.patch.object(progress.sys, "stderr", None):
             line = progress.Progress(1)
             line.step(making.Facts(1, Status.DONE, "read"))
-        self.assertEqual(line.done, 1)
+            # A page that isn't made for want of a file is counted apart from those that aren't read.
+            line.step(making.Facts(1, Status.NO_ROOM, "another page has its place"))
+            line.step(making.unreadable("no such file"))
+        self.assertEqual((line.done, line.unread), (3, 1))
 
     def test_the_time_left_is_hours_and_minutes(self):
         for seconds, said in ((1, "1 min"), (61, "2 min"), (3600, "1 h 00 min"), (7384, "2 h 04 min"), (360000, "100 h 00 min")):

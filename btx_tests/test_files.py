@@ -166,6 +166,40 @@ class Files(stand.Case):
             self.assertEqual((done.returncode, done.stderr.splitlines()[-1]),
                              (2, f"btx {word}: error: -o takes a name after it, and this one is empty".encode()))
 
+    def test_names_that_no_file_can_have(self):
+        for word in ("write", "html", "svg"):
+            done = stand.btx(word, stand.page("title"), "-o", self.path("none", ""))
+            self.assertEqual((done.returncode, done.stderr.decode()), (4, f"btx: {word}: {self.path('none', '')}: no such folder\n"))
+        out = self.path("x" * 256)
+        done = stand.btx("svg", stand.page("title"), "-o", out)
+        self.assertEqual((done.returncode, done.stderr.decode()), (4, f"btx: svg: {out}: file name too long\n"))
+        self.assertEqual(os.listdir(self.folder), [])
+
+    def test_what_is_read_is_replaced_by_a_page_alone(self):
+        page, script = self.written("page", b"A"), self.written("script", b"text B\n")
+        os.symlink("page", self.path("link"))
+        texts = [[word, page] for word in ("changes", "check", "list", "show", "cells", "html", "svg", "cast")]
+        for words in [*texts, ["html", stand.page("title"), page], ["trace", page, script], ["flash", page, "1"]]:
+            for out in (page, self.path("link")):
+                done = stand.btx(*words, "-o", out)
+                said = f"btx: {words[0]}: -o names {page}, which is read here and would be lost; another name keeps it\n"
+                self.assertEqual((done.returncode, done.stdout, done.stderr.decode(), self.bytes_of(page)), (2, b"", said, b"A"), words)
+        done = stand.btx("edit", page, script, "-o", script)
+        self.assertEqual((done.returncode, self.bytes_of(script)), (2, b"text B\n"))
+        for words in (["write", page], ["seven", page], ["edit", page, script]):
+            want = stand.put(*words)
+            self.assertEqual((stand.btx(*words, "-o", page).returncode, self.bytes_of(page)), (0, want))
+
+    def test_a_script_over_a_pipe_is_read_once(self):
+        """Where the page isn't there nothing waits for another."""
+        pipe = self.path("pipe")
+        os.mkfifo(pipe)
+        run = stand.begun("edit", self.path("none"), pipe)
+        with open(pipe, "wb") as file:
+            file.write(b"text A\n")
+        self.assertEqual(run.communicate(timeout=stand.LONG)[1].decode(), f"btx: edit: {self.path('none')}: no such file\n")
+        self.assertEqual(run.returncode, 4)
+
     def test_a_page_alone_is_shown(self):
         want = stand.btx("terminal", stand.page("title")).stdout
         self.assertEqual(stand.btx(stand.page("title")).stdout, want)
@@ -205,6 +239,8 @@ class Files(stand.Case):
         for word in ("edit", "terminal", "check-script"):
             self.assertEqual(stand.btx("help", word).stdout, stand.btx(word, "--help").stdout)
             self.assertIn(f"usage: btx {word}".encode(), stand.btx("help", word).stdout)
+        for asked in (["show", "page", "--help"], ["show", "-h"], ["show", "-o", "x", "page", "-h"]):
+            self.assertEqual(stand.btx(*asked).stdout, stand.btx("help", "show").stdout)
         self.assertEqual(stand.btx("help").stdout, stand.btx("--help").stdout)
         self.assertEqual(stand.btx("help", "help").stdout, stand.btx("--help").stdout)
         for words, count in ((("edit", "trace"), 2), (("help", "edit"), 2), (("edit", "trace", "plot"), 3)):

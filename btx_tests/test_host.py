@@ -162,6 +162,33 @@ class Requests(HostCase):
         with open(stand.page(stand.all_pages()[0]), "rb") as file:
             self.assertTrue(guest.has(AT_FIRST + file.read()))
 
+    def test_pages_that_no_number_shows_are_listed(self):
+        """One whose name is none, and one whose number another has."""
+        for name in ("title.btx", "02.btx"):
+            self.written(f"pages/{name}", b"A")
+        self.host("--bits", "0")
+        self.assertEqual(self.said[:-1], [f"btx: host: no number shows {name}\n" for name in ("02.btx", "title.btx")])
+
+    def test_what_is_no_file_is_no_page(self):
+        """A pipe that nobody writes, a folder, and a link to nothing."""
+        os.mkfifo(self.path("pages", "3.btx"))
+        os.mkdir(self.path("pages", "4.btx"))
+        os.symlink("nowhere", self.path("pages", "5.btx"))
+        _, port = self.host("--bits", "0")
+        guest = self.guest(port)
+        for number in (b"3", b"4", b"5"):
+            guest.send(b"*" + number + b"#")
+            self.assertTrue(lines.until(lambda: self.comes_to(guest, b"*" + number + b"#: keine Seite, no page" + guests.BACK)), number)
+
+    def test_who_asks_for_a_page_that_is_gone_is_dropped_and_it_is_named(self):
+        run, port = self.host("--bits", "0")
+        guest, page = self.guest(port), self.path("pages", "2.btx")
+        self.assertTrue(guest.has(self.page("0")))
+        os.remove(page)
+        guest.send(b"*2#")
+        self.assertTrue(guest.is_dropped())
+        self.assertTrue(run.stderr.readline().decode().endswith(f" is dropped: {page}: no such file or directory\n"))
+
     def test_what_cannot_be_served(self):
         for name in ("empty", "parts"):
             os.mkdir(self.path(name))
@@ -176,6 +203,8 @@ class Requests(HostCase):
             ):
                 done = stand.btx("host", *words)
                 self.assertEqual((done.returncode, said in done.stderr.decode()), (4, True), done.stderr)
+            # Pages are listed once it listens.
+            self.assertNotIn(b"*0#", stand.btx("host", stand.PAGES, "--port", taken).stderr)
         for host in ("a..b", f"{64 * 'a'}.example"):
             done = stand.btx("host", self.path("pages"), "--port", "0", "--bind", host)
             self.assertEqual((done.returncode, done.stderr), (4, b"btx: host: name or service not known\n"))

@@ -231,6 +231,37 @@ place.install(False)
         self.is_right(self.run_of(INSTALL, "--uninstall", prefix))
         self.assertFalse(os.path.exists(prefix))
 
+    def test_an_install_that_is_killed_at_any_step_is_taken_away(self):
+        """Also in the first instants, with the folders above its prefix; and over an earlier one."""
+        prefix = self.path("one", "two")
+        code = """import os, signal, sys
+from building import tree
+place = tree.Tree(sys.argv[1], sys.argv[1])
+place.write("bin/first", b"")
+left = int(sys.argv[2])
+def step(event, _):
+    global left
+    if event in ("os.chmod", "os.mkdir", "os.remove", "os.rename", "open"):
+        left -= 1
+        if left == 0:
+            os.kill(os.getpid(), signal.SIGKILL)
+sys.addaudithook(step)
+place.install(False)
+"""
+        earlier = tree.Tree(prefix, prefix)
+        earlier.write("lib/earlier", b"")
+        for is_over in (False, True):
+            for count in range(1, 100):
+                if is_over:
+                    earlier.install(False)
+                done = self.run_of(sys.executable, "-c", code, prefix, str(count), cwd=stand.ROOT)
+                self.run_of(INSTALL, "--uninstall", prefix)
+                self.assertEqual(self.contents(self.folder), [], (is_over, count))
+                if done.returncode == 0:
+                    break
+                self.assertEqual(done.returncode, -signal.SIGKILL, done.stderr.decode())
+            self.assertGreater(count, 8)
+
     def test_an_interrupt_ends_it_without_a_word(self):
         """While it reads the program, which comes through a pipe."""
         program = self.path("cept_tool")
@@ -371,16 +402,39 @@ place.install(False)
 
     def test_what_pkg_config_reads_holds_under_any_prefix(self):
         config, = self.needs("pkg-config")
-        for prefix in ("/pre fix", "/c#", '/a"b', "/a\\b"):
+        for prefix in ("/pre fix", "/c#", '/a"b', "/a\\b", "/a,b"):
             self.written("tamligub.pc", shared.pkg_config(prefix, "${prefix}/lib", "${prefix}/include", "0.1", is_searched=False).encode())
             done = self.run_of(config, "--cflags", "--libs", "tamligub", env={**self.bare(), "PKG_CONFIG_PATH": self.folder})
             words = shlex.split(self.is_right(done).decode())
-            self.assertEqual(words, [f"-I{prefix}/include", f"-L{prefix}/lib", f"-Wl,-rpath,{prefix}/lib", "-ltamligub"])
+            # A linker is told of a comma by a word of its own.
+            path = ["-Xlinker", f"-rpath={prefix}/lib"] if "," in prefix else [f"-Wl,-rpath,{prefix}/lib"]
+            self.assertEqual(words, [f"-I{prefix}/include", f"-L{prefix}/lib", *path, "-ltamligub"])
 
-    def test_a_prefix_that_is_not_utf_8_is_told(self):
-        done = self.run_of(INSTALL, os.fsencode(self.path("pre")) + b"\xff", env=stand.environment())
-        self.assertEqual(done.returncode, 1)
-        self.assertIn(b"install: the name of the prefix isn't UTF-8, as files are in which it stands", done.stderr)
+    def test_a_prefix_that_files_cannot_name_is_told(self):
+        for more, said in ((b"\xff", b"isn't UTF-8, as files are in which it stands"), (b"\n", b"has the end of a line in it")):
+            done = self.run_of(INSTALL, os.fsencode(self.path("pre")) + more, env=stand.environment())
+            self.assertEqual((done.returncode, done.stdout, os.listdir(self.folder)), (1, b"", []))
+            self.assertIn(b"install: the name of the prefix " + said, done.stderr)
+
+    def test_packages_in_a_folder_that_is_not_utf_8(self):
+        self.needs("dpkg", "dpkg-deb")
+        folder = os.fsencode(self.path("deb")) + b"\xff"
+        paths = self.is_right(self.run_of(INSTALL, "--deb", folder, env=stand.environment())).splitlines()
+        self.assertEqual(sorted(paths), sorted(os.path.join(folder, name) for name in os.listdir(folder)))
+
+    def test_a_full_output_is_told_once(self):
+        """By install and build, of their help too, whether or not it is kept to the end."""
+        commands = (("install", INSTALL, self.path("prefix")), ("install", INSTALL, "--help"), ("build", os.path.join(stand.ROOT, "build"), "--help"),
+                    ("build", os.path.join(stand.ROOT, "library", "build"), "--help"))
+        for unbuffered in ("", "1"):
+            # An empty one is none.
+            env = stand.environment(PYTHONUNBUFFERED=unbuffered)
+            for name, *words in commands:
+                with open("/dev/full", "wb") as full:
+                    done = self.run_of(*words, env=env, stdout=full)
+                self.assertEqual(done.returncode, 1, words)
+                self.assertEqual(done.stderr.decode().splitlines()[-1], f"{name}: standard output: No space left on device")
+        self.works(self.path("prefix"))
 
     def test_an_install_with_its_output_closed(self):
         line = f"{INSTALL} {self.path('prefix')} >&-"
@@ -488,6 +542,23 @@ place.install(False)
             self.assertEqual(entry[head]["MimeType"], f"{kind};")
             self.assertTrue(os.access(entry[head]["TryExec"], os.X_OK))
             self.runs(shlex.split(entry[head]["Exec"]))
+
+    def test_what_a_desktop_reads_holds_under_any_prefix(self):
+        """A backslash is doubled in an entry, a program whose path has % is called by env, and XDG_DATA_DIRS can name no folder with a colon."""
+        for prefix, lines in (
+            ("/a\\s", (b"\nTryExec=/a\\\\s/bin/btx\n", b'\nExec="/a\\\\\\\\s/')),
+            ("/50%", (b"\nTryExec=/50%/bin/btx\n", b'\nExec=env "/50%%/')),
+        ):
+            place = tree.Tree("", prefix)
+            parts.put_desktop(place)
+            for name in ("applications/tamligub.desktop", "thumbnailers/tamligub.thumbnailer"):
+                entry = place.files[f"share/{name}"]
+                assert isinstance(entry, tree.File)
+                for line in lines:
+                    self.assertIn(line, entry.data)
+        said = list(desktop.made_known("/a:b"))
+        self.assertIn("it looks in no folder with : in its name, which XDG_DATA_DIRS can't name", said)
+        self.assertFalse(any("XDG_DATA_DIRS=" in line for line in said))
 
     def runs(self, words):
         """Runs an entry as a desktop does: one that makes a picture, or one that opens a file that plays the page."""

@@ -294,6 +294,32 @@ class Words(lines.Case):
         os.close(slave)
 
 
+class Library(stand.Case):
+    """The decoder's library, where what is named is none."""
+
+    def test_what_is_no_library_is_told(self):
+        """Nothing, a text, a folder, and a library of other calls, which the system finds by its name alone."""
+        page = stand.page("title")
+        for named in ("nowhere", self.written("text", b"text"), self.folder, "libc.so.6"):
+            for words in (["line", "-"], ["cut", page, "--all", "-o", self.path("parts")]):
+                done = stand.btx(*words, env=stand.environment(TAMLIGUB_LIBRARY=named))
+                said = f"btx: TAMLIGUB_LIBRARY is {named}, and no library is there\n"
+                self.assertEqual((done.returncode, done.stdout, done.stderr.decode()), (127, b"", said), words)
+
+    def test_why_one_in_its_place_cannot_be_loaded(self):
+        with mock.patch.dict(os.environ, {live.shared.VARIABLE: ""}), mock.patch.object(live, "place", lambda: self.written("text", b"text")):
+            live.library.cache_clear()
+            self.addCleanup(live.library.cache_clear)
+            self.assertRaisesRegex(OSError, "text: ", live.library)
+
+    def test_memory_that_is_not_there_is_told(self):
+        """Of the bytes of a page, and of a snapshot."""
+        one = live.Live.__new__(live.Live)
+        one.handle, one.number = None, live.ctypes.c_uint64()
+        for status, kind in ((6, MemoryError), (1, ValueError)):
+            self.assertRaises(kind, one.text, lambda *_, status=status: status, "why")
+
+
 class Names(stand.Case):
     """The names of keys in a table, which is read without the library."""
 

@@ -1,7 +1,10 @@
 """What btx says of each status. The statuses, limits and reasons are those of the man page of cept_tool."""
 import os
+import shlex
+import shutil
 import signal
 import subprocess
+import sys
 
 import stand
 
@@ -118,13 +121,52 @@ class Messages(stand.Case):
 
     def test_a_full_disk_under_words_of_its_own(self):
         """Once, by one line, also where so little is written that it is kept to the end."""
-        env = {name: value for name, value in stand.environment().items() if name != "PYTHONUNBUFFERED"}
         for words in (["diff", "--quiet", stand.page("title"), stand.page("boat")], ["completion", "bash"], ["terminal", stand.page("title")],
-                      ["--help"]):
-            with open("/dev/full", "wb") as full:
-                done = stand.btx(*words, stdout=full, env=env)
-            name = "" if words == ["--help"] else f"{words[0]}: "
-            self.assertEqual((done.returncode, done.stderr.decode()), (4, f"btx: {name}no space left on device\n"))
+                      ["--help"], ["--version"], ["show", "--help"], ["png", "--help"]):
+            for unbuffered in ("", "1"):
+                with open("/dev/full", "wb") as full:
+                    done = stand.btx(*words, stdout=full, env=stand.environment(PYTHONUNBUFFERED=unbuffered))
+                name = "" if words[0].startswith("--") else f"{words[0]}: "
+                self.assertEqual((done.returncode, done.stderr.decode()), (4, f"btx: {name}no space left on device\n"), words)
+
+    def test_messages_that_cannot_be_written_keep_nothing_from_being_done(self):
+        page = self.written("page", b"\x9b1\rB")
+        for unbuffered in ("", "1"):
+            env = stand.environment(PYTHONUNBUFFERED=unbuffered)
+            for words, status in ((["check", page], 1), (["terminal", page], 1), (["show", "nowhere"], 4), (["shwo"], 2), (["terminal"], 2), ([], 2)):
+                with open("/dev/full", "wb") as full:
+                    done = stand.btx(*words, stderr=full, env=env)
+                self.assertEqual((done.returncode, done.stdout), (status, stand.btx(*words).stdout), words)
+
+    def test_streams_that_are_closed(self):
+        """What can't be read or written is told, no other file takes the place of a stream, and without one for messages all else is done."""
+        page, script = self.written("page", b"A"), self.written("script", b"text B\n")
+        own = [["terminal", page], ["svg", page], ["html", page], ["diff", page, stand.page("title")], ["cast", page], ["--help"]]
+        for words in [["show", page], ["edit", page, script], *own]:
+            done = self.closed(">&-", *words)
+            said, status = ("bad file descriptor", 4) if words in own else ("the output failed", 5)
+            self.assertEqual((done.returncode, done.stdout), (status, b""), words)
+            self.assertRegex(done.stderr.decode(), rf"\Abtx: .*{said}.*\n\Z")
+        for words in (["show", "-"], ["edit", page, "-"], ["terminal", "-"], ["png", "-"]):
+            if words[0] != "png" or stand.absent.has_library("PIL"):
+                done = self.closed("<&-", *words)
+                self.assertEqual((done.returncode, done.stdout), (4, b""), words)
+        done = self.closed("<&- 2>&-", "edit", page, script)
+        self.assertEqual((done.returncode, done.stdout, done.stderr), (0, stand.put("edit", page, script), b""))
+        self.assertEqual(self.closed("2>&-", "show", "nowhere").returncode, 4)
+
+    def closed(self, how, *words):
+        """A run with some streams closed by a shell."""
+        line = f"exec {shlex.join([sys.executable, stand.BTX, *words])} {how}"
+        return stand.btx("-c", line, command="/bin/sh")
+
+    def test_where_messages_cannot_be_written_the_status_stays(self):
+        """On a full disk, and where standard error can't be written at all."""
+        for words, status in ((["diff", "nowhere", stand.page("title")], 4), (["check", "nowhere"], 4), (["nonsense"], 2)):
+            for name, way in (("/dev/full", "wb"), (os.devnull, "rb")):
+                with open(name, way) as error:
+                    done = stand.btx(*words, stderr=error)
+                self.assertEqual((done.returncode, done.stdout), (status, b""), (words, name))
 
     def test_memory_and_limits(self):
         self.ends(["show", "page"], 6, "not enough memory", env=self.stub(6))
@@ -188,3 +230,7 @@ class Messages(stand.Case):
             self.assertIn(f"\n    {word} ".encode(), self.ends(["--help"], 0).stdout)
         self.assertRegex(self.ends(["--version"], 0).stdout.decode(), r"^btx \d+\.\d+\n$")
         self.ends([], 2, "usage: btx")
+
+    def test_a_copy_of_the_command_alone(self):
+        command = shutil.copy(stand.BTX, self.path("copy"))
+        self.ends(["--help"], 127, f"btx: {command} is a copy without the files that it needs", command=command)

@@ -50,3 +50,9 @@ class Viewer(stand.Case):
     def test_a_module_that_is_not_there(self):
         done = stand.btx("viewer", "--module", "nowhere", cwd=self.folder)
         self.assertEqual((done.returncode, done.stdout, done.stderr), (4, b"", b"btx: viewer: nowhere: no such file or directory\n"))
+
+    def test_a_file_that_is_no_module(self):
+        for word in ("viewer", "editor"):
+            done = stand.btx(word, "--module", self.written("page", b"A"), "-o", self.path("out.html"))
+            said = f"btx: {word}: {self.path('page')}: this is no module of WebAssembly\n"
+            self.assertEqual((done.returncode, done.stderr.decode(), os.path.exists(self.path("out.html"))), (4, said, False))

@@ -73,6 +73,21 @@ class Website(archives.Case):
             access.media(self.tab, prefers_reduced_motion="reduce")
             access.nothing_moves(self.tab)
 
+    def test_a_website_without_its_viewer_says_so(self):
+        """In the index and on a page, and nowhere while the viewer is there."""
+        self.archive()
+        lost = "(({ innerText, offsetHeight }) => offsetHeight ? innerText : '')(document.querySelector('.lost'))"
+        for name in ("index.html", "pages/alt & neu/größe/eins.btx.html"):
+            self.open(name)
+            self.assertEqual(self.tab.value(lost), "")
+        shutil.rmtree(os.path.join(self.out, "viewer"))
+        for name in ("index.html", "pages/alt & neu/größe/eins.btx.html"):
+            self.tab.call("Page.navigate", url="file://" + urllib.parse.quote(os.path.join(self.out, name)))
+            self.tab.until("document.readyState === 'complete' && document.querySelector('.lost') !== null")
+            said = self.tab.value(lost)
+            self.assertTrue(said.startswith("Der Ordner viewer dieser Website fehlt; ") and "The folder viewer of this website is missing; " in said, said)
+        self.tab.faults.clear()
+
     def test_from_page_to_page(self):
         self.archive()
         self.open("pages/boat.btx.html")
