@@ -702,6 +702,15 @@ place.install(False)
             self.is_right(self.run_of(INSTALL, "--uninstall", prefix))
             self.assertEqual(self.contents(self.folder), sorted(["stood", *others]))
 
+    def test_an_uninstall_knows_a_prefix_by_each_name(self):
+        """As the folder in which one is, and by a link."""
+        prefix, link = self.path("prefix"), self.path("link")
+        os.symlink("prefix", link)
+        for name, place in ((".", prefix), (link, self.folder)):
+            self.is_right(self.run_of(INSTALL, prefix, env=stand.environment()))
+            self.is_right(self.run_of(INSTALL, "--uninstall", name, cwd=place))
+            self.assertEqual((os.path.exists(prefix), os.path.islink(link)), (False, True), name)
+
     def test_a_package_where_nothing_may_be_written(self):
         self.needs("dpkg", "dpkg-deb")
         # Where another user comes to, wherever tests keep their own.
