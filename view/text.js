@@ -26,6 +26,8 @@ const NOTHING = /^([1-9]\d*) nothing$/;
 // The number of signs of the shortest change line, and what no number of a text goes beyond.
 const SHORTEST = "0 1 1 - 11.00 FFF 000 S---".length;
 const MOST = 1e9;
+// What stands in a line of a stored page that is read as a text.
+const OF_BYTES = /(?![\t\r])[\p{Cc}\ufffd]/u;
 
 // A text that can't be shown: the key of the words that say why, and the values in these.
 export class TextFault extends Error {
@@ -260,7 +262,11 @@ function taken(course, text, refuse, kind, other = () => false) {
 /** @param {string} text */
 export function readChanges(text) {
   const course = new Course(text);
-  return taken(course, text, (line) => course.refuse(line), "notChanges");
+  try {
+    return taken(course, text, (line) => course.refuse(line), "notChanges");
+  } catch (fault) {
+    throw fault instanceof LineFault && OF_BYTES.test(String(fault.values.line)) ? new TextFault("noText") : fault;
+  }
 }
 
 /**

@@ -28,15 +28,26 @@ function tellFault(name, fault) {
 }
 
 /**
- * What a part of an address stands for; one that no address can have stands for itself.
+ * What a part of an address stands for; a % that no address can have stands for itself.
  * @param {string} text
  */
 function nameIn(text) {
   try {
-    return decodeURIComponent(text);
+    return decodeURIComponent(text.replace(/%(?![0-9a-f]{2})/gi, "%25"));
   } catch (fault) {
     return text;
   }
+}
+
+/**
+ * Which of some pages an address means by a name: the one that has it, else one in a folder, or with a suffix; less than 0 is none.
+ * @param {Page[]} pages
+ * @param {string} name
+ */
+function pageNamed(pages, name) {
+  const whole = pages.findIndex((page) => page.name === name);
+  const parts = (/** @type {string} */ path) => [`/${path}`, `/${path.replace(/\.[^./]*$/, "")}`];
+  return whole >= 0 ? whole : pages.findIndex((page) => parts(page.name).some((path) => path.endsWith(`/${name}`)));
 }
 
 export class Viewer {
@@ -384,8 +395,7 @@ export class Viewer {
   follow() {
     const found = /^#(.*)@(\d+)$/.exec(window.location.hash);
     if (!found) return;
-    const name = nameIn(found[1]);
-    const number = this.pages.findIndex((page) => page.name === name);
+    const number = pageNamed(this.pages, nameIn(found[1]));
     if (number < 0) return;
     if (this.pages[number] !== this.page) this.open(number);
     this.player.toBytes(Number(found[2]) + 1);

@@ -28,7 +28,7 @@ const GERMAN = {
   refusedNone: "Nichts abgewiesen.", refusedSome: "{count} abgewiesen.", refusedNoneOf: "Von {items} Elementen ist keines abgewiesen.",
   refusedOneOf: "1 von {items} Elementen ist abgewiesen.", refusedSomeOf: "{count} von {items} Elementen sind abgewiesen.",
   refusedFirst: " Die ersten {most} stehen hier.", otherCheck: " Der Text von check ist von einer anderen Seite.",
-  state: "{come} von {length} Bytes: {done}.", nothingCame: "nichts ist gekommen", cameRefused: "abgewiesen bei Byte {place}: {name}",
+  state: "{come} von {length} Bytes: {done}.", nothingCame: "noch hat sich nichts geändert", cameRefused: "abgewiesen bei Byte {place}: {name}",
   cameCells: "der Befehl bei Byte {place} hat {some} von {all} Zellen neu gemalt",
   copied: "Der Text ist kopiert.", selected: "Der Text ist unten markiert; die Tasten des Browsers kopieren ihn.", saved: "Das Bild ist gesichert.",
   // What is opened.
@@ -59,6 +59,7 @@ const GERMAN = {
   // What can't be shown.
   of: "{name}: {why}", noChanges: "Der Text von changes fehlt.", otherFlash: "Der Text von flash ist von einer anderen Seite.",
   openFlash: "Der Text von flash führt nicht zur ersten Phase zurück; der von flash SEITE 6 tut es.",
+  noText: "das ist kein Text von changes; eine Seite zeigen btx html SEITE und der Viewer, den btx viewer schreibt",
   notChanges: "Zeile {number} ist keine Zeile von changes: „{line}“", notTrace: "Zeile {number} ist keine Zeile von trace: „{line}“",
   notFlash: "Zeile {number} ist keine Zeile von flash: „{line}“", notCells: "Zeile {number} ist keine Zeile von cells: „{line}“",
   notRefusal: "Zeile {number} ist keine Abweisung: „{line}“", notCheck: "Zeile {number} ist keine letzte Zeile von check: „{line}“",
@@ -94,7 +95,7 @@ const ENGLISH = {
   refusedNone: "None refused.", refusedSome: "{count} refused.", refusedNoneOf: "None of {items} items is refused.",
   refusedOneOf: "1 of {items} items is refused.", refusedSomeOf: "{count} of {items} items are refused.",
   refusedFirst: " The first {most} are listed.", otherCheck: " The text of check is of another page.",
-  state: "{come} of {length} bytes: {done}.", nothingCame: "nothing has come", cameRefused: "refused at byte {place}: {name}",
+  state: "{come} of {length} bytes: {done}.", nothingCame: "nothing has changed yet", cameRefused: "refused at byte {place}: {name}",
   cameCells: "the command at byte {place} repainted {some} of {all} cells",
   copied: "The text is copied.", selected: "The text is selected below; copy it with your browser's keys.", saved: "The picture is saved.",
   text: "The page as text", open: "Open another page",
@@ -119,6 +120,7 @@ const ENGLISH = {
   keysArrows: "on the screen: point at a cell",
   of: "{name}: {why}", noChanges: "The text of changes isn't there.", otherFlash: "The text of flash is of another page.",
   openFlash: "The text of flash doesn't lead back to its first phase; that of flash PAGE 6 does.",
+  noText: "this is no text of changes; a stored page is shown by btx html PAGE, and by the viewer that btx viewer writes",
   notChanges: "Line {number} is not understood as a change line or a refusal: “{line}”",
   notTrace: "Line {number} is not understood as a line of trace: “{line}”",
   notFlash: "Line {number} is not understood as a line of flash: “{line}”", notCells: "Line {number} is not understood as a cell line: “{line}”",

@@ -514,14 +514,14 @@ def refusals_are_listed_and_lead_to_their_moments(tab, stand):
 
 def an_address_names_a_page_as_it_is_or_as_addresses_have_it(tab, stand):
     """Also a name that can't stand so in an address: it is followed as the viewer begins, and later."""
-    paths = [stand.kept(name, "ABC") for name in ("first.btx", "100%.btx", "ä b.btx")]
+    paths = [stand.kept(name, "ABC") for name in ("first.btx", "100%.btx", "ä b.btx", "5% c.btx")]
     html = stand.written("names.html", paths)
     here = "Tamligub.begun.then(() => [Tamligub.viewer.page.name, Tamligub.viewer.player.come])"
     changed = """new Promise((done) => {
       addEventListener("hashchange", ({ newURL }) => newURL.endsWith("%s") && setTimeout(done));
       Object.assign(location, { hash: "%s" });
     })"""
-    for end, name in (("#100%@0", "100%"), ("#100%25@0", "100%"), ("#%C3%A4%20b@0", "ä b"), ("#%@0", "first")):
+    for end, name in (("#100%@0", "100%"), ("#100%25@0", "100%"), ("#%C3%A4%20b@0", "ä b"), ("#5%%20c@0", "5% c"), ("#%@0", "first")):
         come = 3 if name == "first" else 1
         tab.open(html + end)
         assert tab.value(here) == [name, come], f"{end} at first"

@@ -114,7 +114,7 @@ def files_are_opened_and_dropped(tab, stand):
       data.items.add(Tamligub.part("file-page").files[0]);
       document.dispatchEvent(new DragEvent("drop", { dataTransfer: data, cancelable: true }));
     })()""")
-    tab.until("Tamligub.part('fault').textContent.startsWith('refused.btx: Line 1 is not understood')")
+    tab.until("Tamligub.part('fault').textContent.startsWith('refused.btx: this is no text of changes; a stored page')")
 
 
 def the_text_of_flash_is_opened_and_dropped(tab, stand):

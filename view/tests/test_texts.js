@@ -134,6 +134,7 @@ test("a text names the first line that is not understood", () => {
   for (const [text, number] of [["0 1 P41 11.00 FFF 000 S---\n", 1], ["1 1 P41 11.00 FFF 000 S---\n1 41 P41 11.00 FFF 000 S---\n", 2], ["1 1 P41\n", 1]]) {
     assert.throws(() => readCells(text), (fault) => fault.number === number, text);
   }
+  for (const page of ["\x0cGuten Tag", GOOD + "\x1b#!A\n", "B\ufffdrse\n"]) assert.throws(() => readChanges(page), { key: "noText" });
   const check = readCheck("! 0 2 6 Interrupted\nitems 3 refused 1\n");
   assert.deepStrictEqual([check.items, check.refused, check.refusals.length, check.refusals[0].name], [3, 1, 1, "Interrupted"]);
   assert.throws(() => readCheck("items 3\n"), (fault) => fault.number === 1);
