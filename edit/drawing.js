@@ -349,15 +349,20 @@ export class Drawing {
 
   // Shows the drawing as it would be kept. Where a person is writing its lines these stay as they are.
   show() {
-    const lines = this.all();
     if (document.activeElement !== this.text) this.put();
     this.mark();
-    this.fault("");
-    this.drawn = null;
-    if (lines.length > 0 && this.needs.ready()) this.tryLine(lines);
+    this.tryAll();
     const isOther = this.said !== this.underWay();
     this.said = this.underWay();
     this.tell({ kind: isOther ? "drawn" : "seen" });
+  }
+
+  // Tries all that is drawn on the page, and tells what is wrong with it.
+  tryAll() {
+    const lines = this.all();
+    this.fault("");
+    this.drawn = null;
+    if (lines.length > 0 && this.needs.ready()) this.tryLine(lines);
   }
 
   /**
@@ -465,5 +470,6 @@ export class Drawing {
   speak() {
     speak(part("draw"));
     this.mark();
+    if (this.drawing()) this.tryAll();
   }
 }

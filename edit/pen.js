@@ -56,18 +56,19 @@ export class Pen {
     return { set: set === this.set ? [] : [this.set], lines: this.set === "serial" ? [] : this.chosenLines(table) };
   }
 
-  // The same as bytes, in which each colour has its table before it.
+  // What is drawn with, as bytes: the same but for the size, with its table before each colour.
   bytes() {
-    return this.chosenLines(null).flatMap(bytesOfLine);
+    return this.chosenLines(null, "normal").flatMap(bytesOfLine);
   }
 
   /**
-   * The lines of what is chosen under the parallel set, where a line has named the table last.
+   * The lines of what is chosen under the parallel set, where a line has named the table last; the size may be another.
    * @param {string | null} table
+   * @param {string} [size]
    * @returns {string[]}
    */
-  chosenLines(table) {
-    const attributes = [PEN.size[this.size], PEN.flash[this.flash]].flatMap((line) => line || []);
+  chosenLines(table, size = this.size) {
+    const attributes = [PEN.size[size], PEN.flash[this.flash]].flatMap((line) => line || []);
     const switches = SWITCHES.filter((key) => this.on.has(key)).map((key) => PEN.switches[key]);
     return [...colourLines("c1", COLOURED.map(([kind, first]) => [this[kind], first]), table), ...attributes, ...switches];
   }

@@ -90,6 +90,8 @@ export class ScriptPane {
     clearTimeout(this.waiting);
     this.waiting = 0;
     this.follow();
+    // What is inserted at once may come as an event for each of its lines, all of them after the last line stands there.
+    if (this.field.value === this.steps.text) return;
     try {
       this.tell({ kind: "typed", text: this.field.value });
     } catch (fault) {

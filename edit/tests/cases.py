@@ -699,6 +699,8 @@ def drawings_are_seen_before_they_are_kept(hand):
     still(hand)
     hand.cell(4, 4)
     hand.type("unter der Zeichnung")
+    # A drawing has no size.
+    hand.click('[data-size="both"]')
     hand.tab_of("draw")
     for tool, start, end in (("box", (4, 3), (40, 30)), ("line", (0, 71), (79, 0)), ("point", (50, 50), (60, 60)), ("wipe", (10, 10), (20, 20))):
         hand.click(f'[data-tool="{tool}"]')
@@ -711,6 +713,9 @@ def drawings_are_seen_before_they_are_kept(hand):
     plotted = read(hand.written("plotted.btx", hand.put("plot", hand.written("before.btx", before), drawing)))
     hand.fill("#drawing", "plot 1 1\n\nbox 1 1 90 1\n")
     assert hand.text("draw-fault").startswith("Zeile 3 der Zeichnung: 3 BadNumber"), hand.text("draw-fault")
+    for language, said in (("en", "Line 3 of the drawing: 3 BadNumber"), ("de", "Zeile 3 der Zeichnung: 3 BadNumber")):
+        hand.choose("#language", language)
+        assert hand.text("draw-fault").startswith(said), hand.text("draw-fault")
     hand.fill("#drawing", read(drawing).decode())
     hand.click("#draw button.main")
     assert hand.looks() == shown, "kept is something else than was seen"
@@ -1253,6 +1258,8 @@ def refused_items_are_told(hand):
     hand.fill("#script", "#" * (1 << 20) + "\n")
     assert hand.text("fault").startswith("Skript ist zu lang"), hand.text("fault")
     assert hand.tab.value("Tamligub.part('script').value") == "at 1 1\n", "another script is seen than is there"
+    hand.write_script("# a comment\n" * 5 + "#" * (1 << 20))
+    assert hand.text("fault").startswith("Skript ist zu lang") and hand.lines() == ["at 1 1"], hand.text("fault")
     hand.fill("#script", "at 1 2\n")
     assert hand.text("fault") == "" and hand.lines() == ["at 1 2"]
 
