@@ -109,18 +109,20 @@ static void watch_signals(void)
     struct sigaction action = {.sa_handler = leave, .sa_flags = SA_RESTART};
     if (pipe(told) != 0)
         exit((perror("example_live"), EXIT_FAILURE));
-    sigaction(SIGINT, &action, NULL);
-    sigaction(SIGTERM, &action, NULL);
+    for (const int *number = (const int[]){SIGINT, SIGTERM, SIGHUP, SIGQUIT, SIGPIPE, 0}; *number != 0; number++)
+        sigaction(*number, &action, NULL);
 }
 
-/* Has keys come one by one and unseen, where they are read from a terminal, with return as 0D; `kept` is how the terminal was. */
+/* Has keys come one by one and unseen, where they are read from a terminal: return as 0D, and but for Ctrl C all with Ctrl too, of which
+ * Ctrl S and Ctrl \ are the 13 and 1C that begin and end a request; `kept` is how the terminal was. */
 static bool takes_keys(struct termios *kept)
 {
     if (tcgetattr(INPUT, kept) != 0)
         return false;
     struct termios keys = *kept;
-    keys.c_lflag &= ~(tcflag_t)(ICANON | ECHO);
-    keys.c_iflag &= ~(tcflag_t)ICRNL;
+    keys.c_lflag &= ~(tcflag_t)(ICANON | ECHO | IEXTEN);
+    keys.c_iflag &= ~(tcflag_t)(ICRNL | IXON);
+    keys.c_cc[VQUIT] = keys.c_cc[VSUSP] = _POSIX_VDISABLE;
     return tcsetattr(INPUT, TCSANOW, &keys) == 0;
 }
 
@@ -158,7 +160,7 @@ int main(int count, char **words)
     printf("\033[?25l\033[2J\033[0;38;2;255;255;255;48;2;0;0;0m");
     for (int row = 1; row <= ROWS; row++)
         printf("\033[%d;1H%*s", row, COLUMNS, "");
-    while (taken > 0 && (come = take(line)) > 0)
+    while (taken > 0 && !ferror(stdout) && (come = take(line)) > 0)
         for (uint64_t fed = 0; taken > 0 && fed < (uint64_t)come; fed += taken) {
             taken = tamligub_feed(&decoder, bytes + fed, (uint64_t)come - fed, list, TAMLIGUB_ROOM_FOR_A_BYTE, &notices);
             say(&decoder, notices);
@@ -167,9 +169,13 @@ int main(int count, char **words)
     say(&decoder, notices);
     tamligub_close(&decoder);
     printf("\033[0m\033[%d;1H\033[?25h\n", ROWS);
-    fflush(stdout);
+    bool is_shown = fflush(stdout) == 0 && !ferror(stdout);
+    if (!is_shown)
+        perror("example_live");
     if (has_keys)
         tcsetattr(INPUT, TCSANOW, &kept);
+    if (!is_shown)
+        return EXIT_FAILURE;
     if (come >= 0 && taken > 0)
         return EXIT_SUCCESS;
     fputs("example_live: the line is broken, or more than 2^32 bytes came\n", stderr);

@@ -156,9 +156,9 @@ def faults_are_told(tools):
 
 
 def full_outputs_are_told(tools):
-    """Whether the examples that write a whole text or picture say that it can't be written, and end with status 1."""
+    """Whether the examples say that what they write can't be written, and end with status 1."""
     right, page = True, os.path.join(ROOT, "pages", "title.btx")
-    for name in ("example", "example_dots", "example_feed"):
+    for name in sorted(tools):
         words = [tools[name], page] if name == "example" else [tools[name]]
         with open(page, "rb") as given, open("/dev/full", "wb") as full:
             done = subprocess.run(words, stdin=given, stdout=full, stderr=subprocess.PIPE)
@@ -169,9 +169,11 @@ def full_outputs_are_told(tools):
 
 
 def terminal_is_put_back(tool):
-    """Whether a terminal has echo, lines and its cursor after the end of the line, Ctrl C and SIGTERM; and return is sent as 0D."""
+    """Whether a terminal has echo, lines and its cursor after the end of the line, Ctrl C and a signal; and return is sent as 0D, and Ctrl S
+    and Ctrl \\ as 13 and 1C."""
     right = True
-    for way in ("end", "key", "signal"):
+    typed = b"*\r\x13\x1c"
+    for way in ("end", "key", signal.SIGTERM, signal.SIGQUIT, signal.SIGHUP):
         with socket.create_server(("127.0.0.1", 0)) as server:
             child, keys = pty.fork()
             if child == 0:
@@ -181,19 +183,19 @@ def terminal_is_put_back(tool):
                 line.sendall(b"A")
                 output = read_until(keys, b"A")
                 flags = [termios.tcgetattr(keys)[3] & (termios.ECHO | termios.ICANON)]
-                os.write(keys, b"*\r")
-                heard = line.recv(100) if way != "end" else b"*\r"
+                os.write(keys, typed)
+                heard = typed if way == "end" else line.recv(len(typed), socket.MSG_WAITALL)
                 if way == "key":
                     os.write(keys, b"\x03")
-                elif way == "signal":
-                    os.kill(child, signal.SIGTERM)
-                else:
+                elif way == "end":
                     line.shutdown(socket.SHUT_WR)
+                else:
+                    os.kill(child, way)
                 output += read_until(keys, b"\x1b[?25h")
                 status = os.waitstatus_to_exitcode(os.waitpid(child, 0)[1])
             flags.append(termios.tcgetattr(keys)[3] & (termios.ECHO | termios.ICANON))
             os.close(keys)
-            if status != 0 or flags != [0, termios.ECHO | termios.ICANON] or heard != b"*\r":
+            if status != 0 or flags != [0, termios.ECHO | termios.ICANON] or heard != typed:
                 print(f"example_live, {way}: status {status}, flags {flags}, sent {heard!r}, {output[-40:]!r}")
                 right = False
     return right
