@@ -152,7 +152,8 @@ runpy.run_path({path!r}, run_name="__main__")"""
             self.assertEqual((done.returncode, done.stdout, done.stderr), (0, said, b""))
 
     def test_files_of_others_stay_until_they_are_to_be_replaced(self):
-        """Those with the very bytes are no hindrance; a link is one. An uninstall takes all, and what was compiled, but that of others."""
+        """Those with the very bytes are no hindrance, and stay; a link is one. An uninstall takes all, and what was compiled, but that of
+        others."""
         prefix = self.path("prefix")
         places = ["bin/cept_tool", "share/man/man1/btx.1.gz", "share/man/man1/cept_tool.1.gz", "share/fish/vendor_completions.d/btx.fish"]
         for place in places:
@@ -177,7 +178,19 @@ runpy.run_path({path!r}, run_name="__main__")"""
         self.assertTrue(os.path.isdir(os.path.join(prefix, "share/tamligub/library/python/tamligub/__pycache__")))
         self.is_right(self.run_of(INSTALL, "--uninstall", prefix))
         stood = {os.path.dirname(place) for place in places} | {"share/man", "share/fish", "share"}
-        self.assertEqual(self.contents(prefix), sorted([*own, *stood, "share/tamligub"]))
+        self.assertEqual(self.contents(prefix), sorted([*own, *stood, "bin/btx", "share/tamligub"]))
+
+    def test_what_others_put_in_the_place_of_its_files_stays(self):
+        """At an uninstall, which names it; and at an install, where it is to be replaced."""
+        prefix = self.path("prefix")
+        self.is_right(self.run_of(INSTALL, prefix, env=stand.environment()))
+        self.written("prefix/bin/btx", b"others")
+        done = self.run_of(INSTALL, prefix, env=stand.environment())
+        self.assertEqual((done.returncode, done.stdout), (1, b""))
+        self.assertIn(f"are in the way: {prefix}/bin/btx; --replace replaces them\n", done.stderr.decode())
+        said = self.is_right(self.run_of(INSTALL, "--uninstall", prefix)).decode()
+        self.assertEqual(said, f"what others have put in its place since stays: {prefix}/bin/btx\n")
+        self.assertEqual(self.contents(prefix), ["bin", "bin/btx"])
 
     def test_a_folder_in_the_place_of_a_file(self):
         """And a file in that of a folder: each is named before anything is written, whatever is to be replaced."""
@@ -215,6 +228,8 @@ runpy.run_path({path!r}, run_name="__main__")"""
         code = """import os, signal, sys
 from building import tree
 class Killed:
+    def mark(self):
+        return "0"
     def make(self, path):
         open(path, "w").close()
         os.kill(os.getpid(), signal.SIGKILL)
@@ -287,6 +302,10 @@ place.install(False)
         done = self.run_of(INSTALL, "--deb", self.path("deb"), env=env)
         self.assertEqual((done.returncode, done.stdout, os.listdir(self.path("deb"))), (1, b"", []))
         self.assertIn(b"dpkg-deb failed: no room", done.stderr)
+        file = self.written("file", b"")
+        for folder in (file, self.path("file", "sub")):
+            done = self.run_of(INSTALL, "--deb", folder, env=env)
+            self.assertEqual(done.stderr.decode().splitlines()[-1], f"install: {file} is no folder, and one is needed in its place")
 
     def test_the_manual(self):
         self.needs("man")

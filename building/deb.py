@@ -194,6 +194,11 @@ def make(folder, binary):
     """Makes the packages in a folder, those of the libraries where these were built, and answers their paths."""
     if not shutil.which("dpkg-deb"):
         raise Failed("--deb needs dpkg-deb, which isn't on this machine")
+    above = folder
+    while above and not os.path.lexists(above):
+        above = os.path.dirname(above.rstrip("/"))
+    if above and not os.path.isdir(above):
+        raise Failed(f"{above} is no folder, and one is needed in its place")
     os.makedirs(folder, exist_ok=True)
     if not os.access(folder, os.W_OK | os.X_OK):
         raise Failed(f"{folder}: no package can be made there, since you may not write in it")

@@ -1,12 +1,15 @@
 """A tree of files under a prefix, with a list of what was put there, by which it is taken away."""
 import contextlib
+import hashlib
 import itertools
 import os
 import shutil
 from typing import NamedTuple
 
-# What is installed under a prefix, a line for each file, and for each folder that was made.
+# What is installed under a prefix: a line for each file, with a tab and its mark, and for each folder that was made.
 LIST = "share/tamligub/installed"
+# For each file the marks that it may have; without any it is ours whatever it is, as one that is being written.
+Marks = dict[str, set[str]]
 # What a file that is being written ends with.
 NEW = ".tamligub-new"
 # The folder in which Python keeps what it compiles of the files beside it.
@@ -30,9 +33,8 @@ class File(NamedTuple):
             file.write(self.data)
         os.chmod(path, self.mode)
 
-    def is_at(self, path):
-        """Whether these very bytes are there."""
-        return os.path.isfile(path) and not os.path.islink(path) and bytes_of(path) == self.data
+    def mark(self):
+        return mark_of(self.data)
 
 
 class Link(NamedTuple):
@@ -43,9 +45,8 @@ class Link(NamedTuple):
     def make(self, path):
         os.symlink(self.target, path)
 
-    def is_at(self, path):
-        """Whether this very link is there."""
-        return os.path.islink(path) and os.readlink(path) == self.target
+    def mark(self):
+        return f"-> {self.target}"
 
 
 class Tree:
@@ -90,23 +91,27 @@ class Tree:
                 raise Refused(f"{self.path(place)} is a folder, in the place of a file")
         strange = [] if replaces else [self.path(place) for place in self.files if place not in known and self.is_strange(place)]
         if strange:
-            more = f" and {len(strange) - NAMED} more" if len(strange) > NAMED else ""
-            named = ", ".join(strange[:NAMED])
-            raise Refused(f"files that no install has put there are in the way: {named}{more}; --replace replaces them")
+            raise Refused(f"files that no install has put there are in the way: {named(strange)}; --replace replaces them")
 
     def is_strange(self, place):
         """Whether something else is in the place of a file."""
-        return os.path.lexists(self.path(place)) and not self.files[place].is_at(self.path(place))
+        return os.path.lexists(self.path(place)) and not self.stands(place)
 
-    def lay(self):
-        """Writes the files and makes their folders."""
+    def stands(self, place):
+        """Whether the very file is in its place."""
+        return mark_at(self.path(place)) == self.files[place].mark()
+
+    def lay(self, left=()):
+        """Writes the files, but for some that are left as they are, and makes their folders."""
         for place, file in self.files.items():
-            os.makedirs(os.path.dirname(self.path(place)), exist_ok=True)
-            put(self.path(place), file.make)
+            if place not in left:
+                os.makedirs(os.path.dirname(self.path(place)), exist_ok=True)
+                put(self.path(place), file.make)
 
     def put_list(self, files, folders):
         """Writes a list of what is under the prefix. Folders that it needs come with it at once, so that none stands without a list."""
-        lines = [*files, LIST, *(folder + "/" for folder in folders)]
+        marked = (f"{place}\t{mark}" if mark else place for place, marks in files.items() for mark in sorted(marks) or [""])
+        lines = [*marked, LIST, *(folder + "/" for folder in folders)]
         file = File("".join(line + "\n" for line in dict.fromkeys(lines)).encode(), 0o644)
         outer, place = begun(self.prefix)
         if place:
@@ -114,21 +119,25 @@ class Tree:
         else:
             put(outer, file.make)
 
-    def put_first_list(self, files, folders):
+    def put_first_list(self, earlier, files, folders):
         """Writes a list of what may be under the prefix until all is written: that of an earlier install too, and files that are being
         written."""
-        ours = (*self.files, LIST)
-        self.put_list([*files, *ours, *(place + NEW for place in ours)], folders)
+        marks = {place: earlier[place] and earlier[place] | files.get(place, set()) for place in earlier}
+        self.put_list({**files, **marks, **{place + NEW: set() for place in (*files, LIST)}}, folders)
 
     def install(self, replaces):
-        """Writes all, takes away what an earlier install left and this one didn't, and writes the list of what is there."""
-        files, folders = listed(self.prefix)
-        self.check(set(files), replaces)
+        """Writes all but what stands there and isn't known to be ours, takes away what an earlier install left and this one didn't, and
+        writes the list of what is there."""
+        earlier, folders = listed(self.prefix)
+        earlier = {place: marks for place, marks in earlier.items() if is_ours(self.prefix, place, marks)}
+        self.check(set(earlier), replaces)
+        left = {place for place in self.files if place not in earlier and self.stands(place)}
+        files = {place: {file.mark()} for place, file in self.files.items() if place not in left}
         made = self.missing()
-        self.put_first_list(files, [*folders, *made])
-        self.lay()
-        take_away(self.prefix, [place for place in files if place not in self.files], [])
-        self.put_list(self.files, [*folders, *made])
+        self.put_first_list(earlier, files, [*folders, *made])
+        self.lay(left)
+        take_away(self.prefix, [place for place in earlier if place not in self.files], [])
+        self.put_list(files, [*folders, *made])
 
 
 def path_of(prefix, place):
@@ -145,6 +154,28 @@ def above(place):
 def bytes_of(path):
     with open(path, "rb") as file:
         return file.read()
+
+
+def mark_of(data):
+    """The mark of a file with these bytes, by which a list tells it from others."""
+    return hashlib.sha256(data).hexdigest()
+
+
+def mark_at(path):
+    """The mark of the file or the link at a path; None where there is neither."""
+    if os.path.islink(path):
+        return Link(os.readlink(path)).mark()
+    return mark_of(bytes_of(path)) if os.path.isfile(path) else None
+
+
+def is_ours(prefix, place, marks):
+    """Whether what stands at a place of the list is what an install has put there."""
+    return not marks or mark_at(path_of(prefix, place)) in marks
+
+
+def named(paths):
+    """The first of some paths, and how many more there are."""
+    return ", ".join(paths[:NAMED]) + (f" and {len(paths) - NAMED} more" if len(paths) > NAMED else "")
 
 
 def put(path, make):
@@ -190,10 +221,21 @@ def begun(prefix):
 
 
 def listed(prefix):
-    """The files that are installed under a prefix, the list aside, and the folders that were made, outer ones first."""
+    """The files that are installed under a prefix with their marks, the list aside, and the folders that were made, outer ones first."""
     path = os.path.join(prefix, LIST)
-    lines = bytes_of(path).decode().splitlines() if os.path.isfile(path) else []
-    return [line for line in lines if line[-1] != "/" and line != LIST], [line[:-1] for line in lines if line[-1] == "/"]
+    files: Marks = {}
+    folders = []
+    for place, _, mark in (line.partition("\t") for line in (bytes_of(path).decode().splitlines() if os.path.isfile(path) else [])):
+        if place.endswith("/"):
+            folders.append(place[:-1])
+        elif place != LIST:
+            files.setdefault(place, set()).update([mark] if mark else [])
+    return files, folders
+
+
+def others(prefix, files):
+    """Which files of the list are no longer what an install has put there: what others have written in their place stays."""
+    return [place for place, marks in files.items() if os.path.lexists(path_of(prefix, place)) and not is_ours(prefix, place, marks)]
 
 
 def take_away(prefix, files, folders):
