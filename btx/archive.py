@@ -5,7 +5,7 @@ import contextlib
 import dataclasses
 import fcntl
 import os
-from collections.abc import Iterable, Iterator
+from collections.abc import Iterable, Iterator, Sequence
 from types import ModuleType
 
 from btx import collection, debian, files, html_file, jobs, lists, making, numbers, pillow, program, progress, say, viewer, website
@@ -168,7 +168,7 @@ class Archive:
         folders, same = len(self.here.unread), len(lists.alike(self.facts))
         kept = "kept" if self.options.keep else "removed"
         notes = [
-            folders and f"{collection.several(folders, 'folder')} can't be read; the report names {'it' if folders == 1 else 'them'}",
+            folders and f"{closed(self.here)}; the report names {'it' if folders == 1 else 'them'}",
             self.gone and f"{collection.several(self.gone, 'page')} no longer in the collection: {kept}",
             same and f"{same:,} pages with a screen that another has too; the report names them", collection.left_aside(self.here),
         ]
@@ -176,13 +176,21 @@ class Archive:
             print(note)
 
 
+def closed(here: collection.Collection) -> str:
+    """A sentence on the folders that can't be read; empty where there are none."""
+    return f"{collection.several(len(here.unread), 'folder')} can't be read" if here.unread else ""
+
+
+def nothing_in(here: collection.Collection, patterns: Sequence[str]) -> tuple[str, str, str]:
+    """Why a collection has no page."""
+    return f"there is no page in it, named {' '.join(patterns or collection.PATTERNS)}", closed(here), collection.left_aside(here)
+
+
 def run(path: program.Runner, options: argparse.Namespace) -> int:
     fault = fault_of(options)
     here = collection.Collection(options.folder) if fault else collection.found(options.folder, options.pattern)
-    if not fault and not here.names and not here.unread:
-        aside = collection.left_aside(here)
-        said = f"there is no page in it, named {' '.join(options.pattern or collection.PATTERNS)}"
-        fault = Status.UNREAD, f"{html_file.shown_name(options.folder)}: {said}" + (f"; {aside}" if aside else "")
+    if not fault and not here.names:
+        fault = Status.UNREAD, f"{html_file.shown_name(options.folder)}: {'; '.join(filter(None, nothing_in(here, options.pattern)))}"
     if fault:
         say(f"archive: {fault[1]}")
         return fault[0]

@@ -115,7 +115,7 @@ def program_for(beside: str) -> program.Runner:
 
 
 def guarded(path: program.Runner, word: str, act: Callable[..., int], *things: object) -> int:
-    """Runs a word; where files or the program fail, it says so."""
+    """Runs a word; where files, the program or the memory fail, it says so."""
     try:
         return act(path, *things)
     except BrokenPipeError:
@@ -124,6 +124,9 @@ def guarded(path: program.Runner, word: str, act: Callable[..., int], *things: o
         return telling.of_end(path, word, end)
     except OSError as fault:
         return telling.of_fault(word, fault)
+    except MemoryError:
+        say(f"{word}: there is not enough memory")
+        return Status.NO_MEMORY
 
 
 def is_page(word: str) -> bool:

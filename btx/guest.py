@@ -12,6 +12,8 @@ BEGIN, END = b"\x13*", b"\x1c#"
 # What a key of a sign sends: bytes of the primary set, and of a letter with an accent this and the accent before it.
 ACCENT = 0x19
 SIGN = re.compile(rb"(?:\x19[\x40-\x4f])?[\x20-\x7e]")
+# What the key for it sends takes the last sign of a request back.
+TAKEN_BACK = b"\x08\x7f"
 # A page begins as on a decoder that was just opened, under the parallel set.
 AT_FIRST = b"\x1f\x2f\x42"
 # A line at the foot: a break of the service at row 24, whose end brings all back; the row is blank first.
@@ -86,6 +88,8 @@ class Guest:
             return (b"", False) if was_refused else self.asked()
         if sign in BEGIN:
             self.typed, self.is_refused = b"", False
+        elif self.typed and sign in TAKEN_BACK:
+            self.typed = b"".join(SIGN.findall(self.typed)[:-1])
         elif self.typed is None or not (0x20 <= byte <= 0x7E or byte == ACCENT):
             return b"", False
         else:

@@ -125,6 +125,13 @@ class Left(archives.Case):
         self.assertEqual(report[f"{deep}/house.btx"]["meaning"], "read to its end, nothing refused; its folder can't be read now")
         self.assertIn(f"pages/{deep}/house.btx", self.made())
         self.assertNotIn("form.btx", report)
+        # Where no other page is left nothing is taken away, and nothing made.
+        before = self.made()
+        for out in (self.out, self.path("new")):
+            done = stand.btx("archive", self.source, "-o", out, "--pattern", "*.bxt")
+            self.assertEqual((done.returncode, done.stdout), (4, b""))
+            self.assertIn(b"there is no page in it, named *.bxt; 1 folder can't be read; left aside: 2 files (2 .btx)\n", done.stderr)
+        self.assertEqual((self.made(), os.path.exists(self.path("new"))), (before, False))
 
 
 class Taken(archives.Case):

@@ -117,6 +117,7 @@ class Requests(HostCase):
         for typed, row in (
             (b"*9", "*9"), (b"9#", "*99#: keine Seite, no page"), (b"#", "#: keine Seite, no page"), (b"*", "*"),
             (b"12345678901234567", "Mehr als 16 Zeichen, more than 16 signs"), (b"*1234567890123456", "*1234567890123456"),
+            (b"*12\x083", "*13"), (b"\x7f\x08\x08", "*"),
         ):
             guest.send(typed)
             self.assertTrue(lines.until(lambda: self.comes_to(guest, b"\x1f\x2f\x4f") and self.show(guest.came)[23].rstrip() == row), row)

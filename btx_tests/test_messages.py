@@ -1,4 +1,6 @@
 """What btx says of each status. The statuses, limits and reasons are those of the man page of cept_tool."""
+import contextlib
+import io
 import os
 import shlex
 import shutil
@@ -7,6 +9,8 @@ import subprocess
 import sys
 
 import stand
+
+from btx import command
 
 
 class Messages(stand.Case):
@@ -25,6 +29,15 @@ class Messages(stand.Case):
         path = self.written("stub", b"#!/bin/sh\nexit %d\n" % status)
         os.chmod(path, 0o755)
         return stand.environment(BTX_PROGRAM=path)
+
+    def test_memory_that_is_not_there(self):
+        """As for the decoder of a line."""
+        def act(_):
+            raise MemoryError("there is no memory for a decoder")
+
+        with contextlib.redirect_stderr(io.StringIO()) as said:
+            status = command.guarded("", "line", act)
+        self.assertEqual((status, said.getvalue()), (6, "btx: line: there is not enough memory\n"))
 
     def test_words_of_the_program_pass_through(self):
         script = self.written("script", b"at 1 2\ntext XY\nundo\n")

@@ -103,6 +103,10 @@ class Website(archives.Case):
         self.click("größe/")
         self.ready("#count")
         self.shows(NAMES, "alt & neu/größe/eins.btx,alt & neu/größe/zwei.btx")
+        # An address goes to a byte of a page, by its name with the folders and the suffix or without.
+        for name in ("alt & neu/größe/eins.btx", "größe/eins.btx", "eins.btx", "eins"):
+            self.open("pages/alt & neu/größe/eins.btx.html", urllib.parse.quote(f"#{name}@13", safe="#@/"))
+            self.tab.until("Tamligub.viewer.player.come === 14")
         self.open("pages/refused.btx.html")
         self.click("▶ BILDSCHIRMTEXT")
         self.shows(WALK, "prev:◀ Eine gestörte Übertragung")
