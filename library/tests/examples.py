@@ -173,7 +173,8 @@ def terminal_is_put_back(tool):
     and Ctrl \\ as 13 and 1C."""
     right = True
     typed = b"*\r\x13\x1c"
-    for way in ("end", "key", signal.SIGTERM, signal.SIGQUIT, signal.SIGHUP):
+    signals = {one.name: one for one in (signal.SIGTERM, signal.SIGQUIT, signal.SIGHUP)}
+    for way in ("end", "key", *signals):
         with socket.create_server(("127.0.0.1", 0)) as server:
             child, keys = pty.fork()
             if child == 0:
@@ -190,7 +191,7 @@ def terminal_is_put_back(tool):
                 elif way == "end":
                     line.shutdown(socket.SHUT_WR)
                 else:
-                    os.kill(child, way)
+                    os.kill(child, signals[way])
                 output += read_until(keys, b"\x1b[?25h")
                 status = os.waitstatus_to_exitcode(os.waitpid(child, 0)[1])
             flags.append(termios.tcgetattr(keys)[3] & (termios.ECHO | termios.ICANON))
