@@ -8,8 +8,8 @@ import textwrap
 from collections.abc import Callable, Sequence
 from typing import Any, NoReturn, Protocol
 
-from btx import VERSION, archive, cast, check_script, completion, cut, diff, editor, files, film, host, html_file, jobs, library, line
-from btx import messages, near, passing, picture, program, put_apart, say, svg, telling, terminal, viewer
+from btx import VERSION, archive, cast, check_script, completion, cut, diff, editor, ending, files, film, host, html_file, jobs, library
+from btx import line, messages, near, passing, picture, program, put_apart, say, svg, telling, terminal, viewer
 from btx.statuses import NOT_THERE, Status
 
 
@@ -218,7 +218,9 @@ def main(words: Sequence[str], beside: str) -> NoReturn:
         say(fault)
         status = NOT_THERE
     except BrokenPipeError:
-        passing.end_by(signal.SIGPIPE)
+        ending.end_by(signal.SIGPIPE)
     except KeyboardInterrupt:
-        passing.end_by(signal.SIGINT)
+        ending.end_by(signal.SIGINT)
+    except ending.Signalled as signalled:
+        ending.end_by(signalled.number)
     sys.exit(status)

@@ -12,20 +12,12 @@ import tty
 from collections.abc import Callable, Iterator
 from typing import Any, TextIO
 
-from btx import looks, terminal
+from btx import ending, looks, terminal
 
 OWN_SCREEN, FORMER_SCREEN = "\x1b[?1049h", "\x1b[?1049l"
 # What ends a run from outside, and what only has something to be done.
 ENDING = (signal.SIGHUP, signal.SIGINT, signal.SIGQUIT, signal.SIGTERM)
 TELLING = (signal.SIGCONT, signal.SIGTSTP, signal.SIGWINCH)
-
-
-class Signalled(BaseException):
-    """A signal ends the run."""
-
-    def __init__(self, number: int) -> None:
-        super().__init__(number)
-        self.number = number
 
 
 class Signals:
@@ -38,7 +30,7 @@ class Signals:
     def ends(self, number: int, _: object) -> None:
         if not self.raised:
             self.raised = True
-            raise Signalled(number)
+            raise ending.Signalled(number)
 
     def __enter__(self) -> Signals:
         self.reading, writing = os.pipe()

@@ -19,6 +19,8 @@ MODULE = f'<script type="module" src="{ENTRY}"></script>\n'
 DATA = '<script type="application/json" id="pages">[]</script>'
 # Each phase of the flash once, and back to the first; and the beginning of a line of one of these turns.
 TURNS = "6"
+# What a page that has no file is called.
+INPUT = "standard input"
 TURNED = re.compile("^[1-9]", re.MULTILINE)
 # In a name: control characters, bytes that are no UTF-8, and a backslash that would be read as the first sign of an escape.
 UNSHOWN = re.compile(r"[\x00-\x1f\x7f-\x9f\udc80-\udcff]|\\(?=x[0-9a-fA-F]{2})")
@@ -34,8 +36,8 @@ def arguments(parser: argparse.ArgumentParser) -> None:
 
 def names_of(paths: Sequence[str]) -> list[str]:
     """A name for each page: its file's, or its path where two files have the same."""
-    files = [os.path.basename(path).removesuffix(".btx") for path in paths]
-    return [shown_name(file if files.count(file) == 1 else path) for file, path in zip(files, paths)]
+    names = [INPUT if path == files.STANDARD else os.path.basename(path).removesuffix(".btx") for path in paths]
+    return [shown_name(name if names.count(name) == 1 else path) for name, path in zip(names, paths)]
 
 
 def escaped(found: re.Match[str]) -> str:

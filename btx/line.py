@@ -12,7 +12,7 @@ import time
 from collections.abc import Callable
 from typing import NoReturn, Protocol
 
-from btx import files, glass, keyboard, live, looks, messages, numbers, passing, recording, say, terminal, wire
+from btx import files, glass, keyboard, live, looks, messages, numbers, recording, say, terminal, wire
 
 SUMMARY = "a line in the terminal: a host, a serial device or standard input"
 NAMES = "HOST:PORT, serial:DEVICE:BITS, as serial:/dev/ttyS0:1200, or -"
@@ -342,11 +342,8 @@ def run(_: object, options: argparse.Namespace) -> int:
         return 2
     files.write_utf8(newline="\n")
     keep_input(options.line)
-    try:
-        with contextlib.closing(options.line.open()) as line:
-            end = watch(line, table, options)
-    except glass.Signalled as signalled:
-        passing.end_by(signalled.number)
+    with contextlib.closing(options.line.open()) as line:
+        end = watch(line, table, options)
     if str(end):
         say(f"line: {options.line.text}: {end}")
     return end.status

@@ -12,6 +12,7 @@ MOST_PAGE, MOST_SCRIPT = files.MOST_PAGE, typed.MOST
 OUTPUT = 1
 COUNTS = {1: "one", 2: "two"}
 EMPTY = "a name is empty"
+FOLDERS = "; btx archive takes a folder and makes its pages a website"
 is_file = files.is_plain
 
 
@@ -137,7 +138,7 @@ def unreadable(run: Run) -> str:
     for name in reversed(names):
         fault = fault_of(name)
         if fault:
-            return f"{run.word}: {name}: {fault}"
+            return f"{run.word}: {name}: {fault}{FOLDERS if os.path.isdir(name) else ''}"
     return f"{run.word}: {names[0]}: it could not be read to its end"
 
 

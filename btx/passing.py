@@ -6,7 +6,7 @@ import signal
 import subprocess
 from collections.abc import Iterator, Sequence
 
-from btx import files, messages, program, say, typed
+from btx import ending, files, messages, program, say, typed
 from btx.statuses import READ, Status
 
 OUTPUT = ("-o", "--output")
@@ -122,14 +122,8 @@ def run(path: program.Runner, word: str, words: Sequence[str]) -> int:
         status = put(path, word, handed.words, out)
         text = messages.sentence(messages.Run(path, word, words, handed), status) if status > 0 else ""
     if status < 0:
-        end_by(-status)
+        ending.end_by(-status)
     if status == Status.NO_ROOM and not out and messages.reader_is_gone():
-        end_by(signal.SIGPIPE)
+        ending.end_by(signal.SIGPIPE)
     told(word, text, status, out)
     return status
-
-
-def end_by(number: int) -> None:
-    """Ends as a program without a handler would, so that a shell sees the usual status."""
-    signal.signal(number, signal.SIG_DFL)
-    os.kill(os.getpid(), number)

@@ -2,7 +2,7 @@
 from collections.abc import Callable
 from typing import TypeVar
 
-from btx import messages, passing, program, say
+from btx import ending, messages, program, say
 from btx.statuses import Status
 
 Read = TypeVar("Read")
@@ -11,7 +11,7 @@ Read = TypeVar("Read")
 def of_end(path: program.Runner, word: str, end: program.Ended) -> int:
     """Says why a run of the program ended, which people asked for by a word; by a signal this process ends too."""
     if end.status < 0:
-        passing.end_by(-end.status)
+        ending.end_by(-end.status)
     is_unnamed = end.status == Status.USAGE and word not in program.WORDS
     say(messages.no_name(word, end.words) if is_unnamed else messages.sentence(messages.Run(path, word, end.words), end.status))
     return end.status

@@ -9,7 +9,7 @@ import time
 from collections.abc import Iterable, Iterator, Mapping, Sequence
 from typing import Protocol, TextIO
 
-from btx import at_end, canvas, files, looks, messages, numbers, program, recording, say, screens, signs
+from btx import at_end, canvas, ending, files, looks, messages, numbers, program, recording, say, screens, signs
 
 SUMMARY = "the page in colour in the terminal"
 # So many looks are kept with what shows them: a line may bring any number of patterns.
@@ -222,18 +222,19 @@ def wait(until: float) -> None:
 def play(painter: Screen, moments: looks.Moments, length: int, clock: recording.Clock, stream: TextIO) -> None:
     """Shows each change when the byte at its place has come."""
     last = min(lines_of(stream), looks.ROWS + 1)
-    stream.write(painter.begun())
-    stream.flush()
-    begun = time.monotonic()
-    try:
-        for place, changed in moments:
-            wait(begun + clock.when(place + 1))
-            stream.write(painter.changed(changed))
+    with ending.heeded():
+        try:
+            stream.write(painter.begun())
             stream.flush()
-        wait(begun + clock.when(length))
-    finally:
-        stream.write(f"{PLAIN}\x1b[{last};1H{SHOW}" + ("\n" if last == looks.ROWS else ""))
-        stream.flush()
+            begun = time.monotonic()
+            for place, changed in moments:
+                wait(begun + clock.when(place + 1))
+                stream.write(painter.changed(changed))
+                stream.flush()
+            wait(begun + clock.when(length))
+        finally:
+            stream.write(f"{PLAIN}\x1b[{last};1H{SHOW}" + ("\n" if last == looks.ROWS else ""))
+            stream.flush()
 
 
 def show(path: program.Runner, page: str, options: argparse.Namespace) -> int:

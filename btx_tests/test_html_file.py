@@ -52,7 +52,8 @@ class Html(stand.Case):
     def test_pages_that_cannot_be_read_are_told_and_the_others_are_in_the_file(self):
         path, lost = self.path("out.html"), self.path("lost.btx")
         done = stand.btx("html", lost, stand.page("title"), self.folder, stand.page("boat"), "-o", path)
-        said = f"btx: html: {lost}: no such file\nbtx: html: {self.folder}: is a directory\n"
+        archive = "btx archive takes a folder and makes its pages a website"
+        said = f"btx: html: {lost}: no such file\nbtx: html: {self.folder}: is a directory; {archive}\n"
         self.assertEqual((done.returncode, done.stdout, done.stderr.decode()), (4, b"", said))
         with open(path, "rb") as file:
             self.assertEqual([page["name"] for page in self.data_in(file.read())], ["title", "boat"])

@@ -125,7 +125,7 @@ class Messages(stand.Case):
 
     def test_files_that_cannot_be_read(self):
         self.ends(["show", "nowhere"], 4, "btx: show: nowhere: no such file\n", cwd=self.folder)
-        self.ends(["show", self.folder], 4, "is a directory")
+        self.ends(["show", self.folder], 4, "is a directory; btx archive takes a folder and makes its pages a website\n")
         self.ends(["edit", stand.page("title"), self.path("none")], 4, f"{self.path('none')}: no such file")
 
     def test_a_full_disk(self):

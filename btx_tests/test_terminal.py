@@ -4,11 +4,13 @@ import itertools
 import os
 import re
 import shlex
+import signal
 import subprocess
 import time
 import unicodedata
 from typing import Any
 
+import lines
 import stand
 
 MOSAIC, PATTERN = "▒", "□"
@@ -138,6 +140,15 @@ class Terminal(stand.Case):
                 self.assertEqual(count, int(float(told) * bits / 10 + 1e-3), (bits, told))
             self.assertEqual((count, round(float(waits[-2]), 4)), (120, round(1200 / bits, 4)))
 
+    def test_a_signal_ends_a_replay_and_the_cursor_is_seen_again(self):
+        for number in (signal.SIGTERM, signal.SIGHUP):
+            one = lines.Terminal("terminal", stand.page("title"), "--replay", "1200")
+            self.addCleanup(one.close)
+            self.assertTrue(one.has(b"\x1b[?25l"))
+            one.signal(number)
+            self.assertEqual(one.status(), -number)
+            self.assertTrue(one.text.endswith(b"\x1b[0m\x1b[25;1H\x1b[?25h"), one.text[-100:])
+
     def test_colours_are_those_of_the_cells(self):
         for name in ("title", "boat", "colours", "rows"):
             reading = Reading(self.run_of(stand.page(name)))
@@ -184,12 +195,12 @@ class Terminal(stand.Case):
         # A form of 6x6 with one plane; lines of six pixels, the left one in the highest of six bits. The code 2/1 is shown by G0.
         head, end = b"\x1f\x23\x20\x20\x40\x3f\x41\x1f\x23\x21\x30", b"\x0f\x1b\x28\x20\x40\x21"
         upper, lower, left, none = 0x40 + 0b111000, 0x40 + 0b000111, 0x40 + 0b111000, 0x40
-        for lines, name in (
+        for form, name in (
             ([upper, upper, none, none, none, none], "BLOCK SEXTANT-1"), ([none, none, none, none, lower, lower], "BLOCK SEXTANT-6"),
             ([left] * 6, "LEFT HALF BLOCK"), ([0x7F] * 6, "FULL BLOCK"), ([0x60] + [none] * 5, "BLOCK SEXTANT-1"),
         ):
-            reading = Reading(self.run_of(self.written("page", head + bytes(lines) + end)))
-            self.assertEqual(unicodedata.name(reading.signs[1, 1]), name, lines)
+            reading = Reading(self.run_of(self.written("page", head + bytes(form) + end)))
+            self.assertEqual(unicodedata.name(reading.signs[1, 1]), name, form)
             self.assertEqual(reading.styles[1, 1], "0;38;2;255;255;255;48;2;0;0;0")
 
     def test_large_signs_stand_at_their_origin(self):
