@@ -199,7 +199,9 @@ class Website(archives.Case):
         for search, wanted in (
             ("grosse", "alt & neu/größe/eins.btx,alt & neu/größe/zwei.btx,zu\\xdf.btx"),
             ("GRÖSSE", "alt & neu/größe/eins.btx,alt & neu/größe/zwei.btx,zu\\xdf.btx"),
-            ("gestorte", "refused.btx"), ("Übertragung", "refused.btx"), ("xdf", "zu\\xdf.btx"), ("", self.all),
+            ("gestorte", "refused.btx"), ("Übertragung", "refused.btx"), ("xdf", "zu\\xdf.btx"), (" ", self.all),
+            # No page has a word of them.
+            ("#", ""), ("☎", ""), ("", self.all),
         ):
             self.choose("search", search)
             self.shows(NAMES, wanted)

@@ -298,7 +298,9 @@ function countOf() {
 
 async function choose() {
   const mine = ++turn;
-  const wanted = folded(part("search").value).match(WORD) || [];
+  const text = folded(part("search").value).trim();
+  // What has no letter and no digit is in no page.
+  const wanted = text.match(WORD) || (text ? [text] : []);
   keepAddress();
   await Promise.all(wanted.flatMap(lettersOf).map((first) => fetched(`words/${all.letters[first]}`)));
   if (mine !== turn) return;
