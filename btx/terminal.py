@@ -3,6 +3,7 @@ Unicode has for old computers, where the terminal is known to draw these or wher
 have; a letter of double size stands in its first cell. Colours are of 24 bits where COLORTERM says so, else of the 256 of the terminal;
 with NO_COLOR there are none, and no pictures."""
 import argparse
+import math
 import os
 import sys
 import time
@@ -94,8 +95,8 @@ class Screen(Protocol):
     def begun(self) -> str:
         """What makes the screen blank."""
 
-    def changed(self, changed: looks.Cells) -> str:
-        """What repaints some cells."""
+    def changed(self, changed: looks.Cells, is_passed: bool = False) -> str:
+        """What repaints some cells; of a picture nothing where it is passed by, as what comes next has come already."""
 
 
 class Painter:
@@ -138,7 +139,7 @@ class Painter:
         """What makes the screen blank."""
         return HIDE + CLEAR + repaint(self, blank_screen())
 
-    def changed(self, changed: looks.Cells) -> str:
+    def changed(self, changed: looks.Cells, is_passed: bool = False) -> str:
         """What repaints some cells."""
         return repaint(self, changed)
 
@@ -162,9 +163,9 @@ class PicturePainter:
     def begun(self) -> str:
         return HIDE + CLEAR + HOME + self.picture()
 
-    def changed(self, changed: looks.Cells) -> str:
+    def changed(self, changed: looks.Cells, is_passed: bool = False) -> str:
         self.cells |= changed
-        return HOME + self.picture()
+        return "" if is_passed else HOME + self.picture()
 
 
 def painter_of(options: argparse.Namespace, environment: Mapping[str, str]) -> Screen:
@@ -227,9 +228,10 @@ def play(painter: Screen, moments: looks.Moments, length: int, clock: recording.
             stream.write(painter.begun())
             stream.flush()
             begun = time.monotonic()
-            for place, changed in moments:
-                wait(begun + clock.when(place + 1))
-                stream.write(painter.changed(changed))
+            dues = [begun + clock.when(place + 1) for place, _ in moments]
+            for (_, changed), due, following in zip(moments, dues, [*dues[1:], math.inf]):
+                wait(due)
+                stream.write(painter.changed(changed, following < time.monotonic()))
                 stream.flush()
             wait(begun + clock.when(length))
         finally:

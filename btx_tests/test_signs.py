@@ -99,6 +99,13 @@ class Signs(stand.Case):
             text = self.run_of(stand.page(name), "--signs", "sixel")
             self.shows(self.pixels_of(text), name, (24, 30))
 
+    def test_pictures_that_take_longer_than_the_line_are_left_out(self):
+        """All has come before a second picture is there: the last one shows the page."""
+        text = self.run_of(stand.page("boat"), "--replay", "1000000000", "--signs", "sixel")
+        pictures = text.split("\x1bP0;1q")[1:]
+        self.assertIn(len(pictures), (2, 3))
+        self.shows(self.pixels_of("\x1bP0;1q" + pictures[-1]), "boat", (24, 30))
+
     def pixels_of(self, text):
         """The pixels that sixel tells: colours in hundredths, and six lines in each band."""
         body = re.search("\x1bP0;1q\"1;1;960;720(.*)\x1b\\\\", text, re.DOTALL)[1]
