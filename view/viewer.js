@@ -391,14 +391,16 @@ export class Viewer {
     this.rested();
   }
 
-  // Goes where the address points: #page@byte.
+  // Goes where the address points: #page@byte, or #page for its end.
   follow() {
-    const found = /^#(.*)@(\d+)$/.exec(window.location.hash);
-    if (!found) return;
-    const number = pageNamed(this.pages, nameIn(found[1]));
-    if (number < 0) return;
+    const found = /^#(.+?)(?:@(\d+))?$/.exec(window.location.hash);
+    if (!found || !this.pages.length) return;
+    const name = nameIn(found[1]);
+    const number = pageNamed(this.pages, name);
+    if (number < 0) return tell("fault", () => word("of", { name, why: word("notHere") }));
     if (this.pages[number] !== this.page) this.open(number);
-    this.player.toBytes(Number(found[2]) + 1);
+    if (found[2]) this.player.toBytes(Number(found[2]) + 1);
+    else this.player.toEnd();
   }
 }
 

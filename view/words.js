@@ -58,6 +58,7 @@ const GERMAN = {
   keysArrows: "auf dem Bildschirm: auf eine Zelle zeigen",
   // What can't be shown.
   of: "{name}: {why}", noChanges: "Der Text von changes fehlt.", otherFlash: "Der Text von flash ist von einer anderen Seite.",
+  notHere: "so heißt hier keine Seite, obwohl die Adresse sie nennt",
   openFlash: "Der Text von flash führt nicht zur ersten Phase zurück; der von flash SEITE 6 tut es.",
   noText: "das ist kein Text von changes; eine Seite zeigen btx html SEITE und der Viewer, den btx viewer schreibt",
   notChanges: "Zeile {number} ist keine Zeile von changes: „{line}“", notTrace: "Zeile {number} ist keine Zeile von trace: „{line}“",
@@ -119,6 +120,7 @@ const ENGLISH = {
   keysSpeed: "1,200, 2,400, 9,600 bit/s, at once", keysShown: "outlines, reveal, flash", keysCopy: "copy the text, save the picture",
   keysArrows: "on the screen: point at a cell",
   of: "{name}: {why}", noChanges: "The text of changes isn't there.", otherFlash: "The text of flash is of another page.",
+  notHere: "the address names it, and no page here is called that",
   openFlash: "The text of flash doesn't lead back to its first phase; that of flash PAGE 6 does.",
   noText: "this is no text of changes; a stored page is shown by btx html PAGE, and by the viewer that btx viewer writes",
   notChanges: "Line {number} is not understood as a change line or a refusal: “{line}”",

@@ -529,6 +529,12 @@ def an_address_names_a_page_as_it_is_or_as_addresses_have_it(tab, stand):
         tab.value(changed % ("#", "#"))
         tab.value(changed % (end, end))
         assert tab.value(here) == [name, come], end
+    tab.value(changed % ("#first", "#first"))
+    assert tab.value(here) == ["first", 3], "without a byte"
+    for end, name in (("#nowhere@0", "nowhere"), ("#first@", "first@")):
+        tab.value(changed % (end, end))
+        assert tab.value(here) == ["first", 3], end
+        assert tab.value("Tamligub.part('fault').textContent").startswith(f"{name}: the address names it"), end
 
 
 def no_byte_of_a_page_is_markup(tab, stand):
