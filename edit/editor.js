@@ -110,7 +110,10 @@ class Editor {
       case "moved":
         this.warned = 0;
         return this.moved();
-      case "arrived": return this.announce();
+      case "arrived":
+        // What a pointer that rests points at is told again once it moves.
+        this.point(-1);
+        return this.announce();
       case "chosen":
         this.typing.end();
         return this.moved();

@@ -313,6 +313,11 @@ export class PatternEditor {
     brush.strokeStyle = "#ff3df0";
     brush.lineWidth = 2;
     brush.strokeRect(this.cursor.column * edge + 1.5, this.cursor.line * edge + 1.5, edge - 2, edge - 2);
+    this.tellPixel();
+  }
+
+  // Tells which pixel the caret of the form is at.
+  tellPixel() {
     const { line, column } = this.cursor;
     part("pixel-words").textContent = word("pixel", { row: line + 1, column: column + 1, ink: this.pixels[line * this.width + column] });
   }
@@ -370,6 +375,7 @@ export class PatternEditor {
 
   speak() {
     speak(part("pattern"));
+    this.tellPixel();
     this.mark();
   }
 }

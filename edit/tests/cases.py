@@ -557,6 +557,22 @@ SHADED = """((one, screen) => one.hidden ? null : (one.getBoundingClientRect().t
   Tamligub.part("beyond"), Tamligub.part("page").getBoundingClientRect())"""
 
 
+def keys_tell_the_caret_where_the_pointer_rests(hand):
+    """What it points at is told again once it moves."""
+    hand.fresh()
+    hand.cell(10, 10)
+    hand.type("A")
+    hand.hover(*hand.place(11, 11, 40, 24))
+    hand.cell(12, 12)
+    assert hand.text("where").startswith("Zeile 12, Spalte 12: "), hand.text("where")
+    for key in ("ArrowUp", "ArrowUp", "ArrowLeft", "ArrowLeft"):
+        hand.key(key)
+    told = "Schreibmarke in Zeile 10, Spalte 10"
+    assert (hand.text("where"), hand.text("state")) == (told, f"{told}: A"), (hand.text("where"), hand.text("state"))
+    hand.hover(*hand.place(11, 10, 40, 24))
+    assert hand.text("where").startswith("Zeile 11, Spalte 12: "), hand.text("where")
+
+
 def the_format_bounds_caret_and_drawing(hand):
     """Of 20 rows the others are shaded: neither mouse nor keys lead there, and a box ends above them."""
     hand.fresh()
@@ -1646,6 +1662,7 @@ def every_control_has_a_name_in_both_languages(hand):
         hand.choose("#language", language)
         assert hand.tab.value(others) == [], hand.tab.value(others)
         assert hand.tab.value("document.documentElement.lang") == language
+        assert hand.text("pixel-words").startswith({"de": "Punkt 1, 1: ", "en": "Pixel 1, 1: "}[language]), hand.text("pixel-words")
         found = hand.tab.value(names)
         assert len(found) > 150, len(found)
         bad = [one for one in found if not one[1] or "undefined" in one[1] or "{" in one[1]]
@@ -1804,7 +1821,7 @@ CASES = (
     past_the_last_row_it_goes_on_in_the_first, an_undo_that_reaches_no_further_says_why,
     scripts_are_typed, signs_are_composed, what_is_protected_stays_and_that_is_told,
     each_attribute_is_a_line, serial_attributes_are_markers, keys_reach_the_colours_of_both_sets,
-    rows_screen_area_format_and_colours_are_lines, the_format_bounds_caret_and_drawing,
+    rows_screen_area_format_and_colours_are_lines, the_format_bounds_caret_and_drawing, keys_tell_the_caret_where_the_pointer_rests,
     patterns_have_inks, a_sign_that_is_written_is_defined_before, a_painted_sign_is_kept_where_another_is_taken,
     drawings_are_seen_before_they_are_kept, without_plot_only_drawing_is_absent, a_bad_line_is_told, the_grammar_is_that_of_btx,
     a_drawing_is_asked_about_and_outlasts_a_crash, a_painted_sign_is_asked_about_and_outlasts_a_crash,
