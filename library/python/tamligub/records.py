@@ -2,7 +2,7 @@
 from __future__ import annotations
 
 from collections.abc import Iterator, Sequence
-from typing import Final, TypedDict, Union, overload
+from typing import Any, Final, TypedDict, Union, overload
 
 from .binding import SIZE_OF_NOTICE
 from .looks import Change, Refusal, notice_of
@@ -10,13 +10,20 @@ from .looks import Change, Refusal, notice_of
 Notice = Union[Change, Refusal]
 
 
-class Layout(TypedDict):
-    """A layout of records, as numpy.dtype reads it."""
+class Fields(TypedDict):
+    """The fields of records, as numpy.dtype reads them."""
 
-    names: list[str]
-    formats: list[str]
-    offsets: list[int]
+    names: Sequence[str]
+    formats: Sequence[Any]
+
+
+class Layout(Fields, total=False):
+    """A layout of records, as numpy.dtype reads it: with the keys and the types that numpy has for one."""
+
+    offsets: Sequence[int]
+    titles: Sequence[Any]
     itemsize: int
+    aligned: bool
 
 
 # Each field of a record: its name, its form, and how many bytes stand before it. tamligub.h says what they mean.
