@@ -192,6 +192,18 @@ runpy.run_path({path!r}, run_name="__main__")"""
         self.assertEqual(said, f"what others have put in its place since stays: {prefix}/bin/btx\n")
         self.assertEqual(self.contents(prefix), ["bin", "bin/btx"])
 
+    def test_a_package_that_came_over_an_install_stays_whole(self):
+        """Also what has the same bytes, links among it."""
+        prefix = self.path("prefix")
+        self.is_right(self.run_of(INSTALL, prefix, env=stand.environment()))
+        packed = [place for place in self.contents(prefix) if place != tree.LIST]
+        for place in packed:
+            if not os.path.isdir(os.path.join(prefix, place)):
+                os.utime(os.path.join(prefix, place), (10**9, 10**9), follow_symlinks=False)
+        said = self.is_right(self.run_of(INSTALL, "--uninstall", prefix)).decode()
+        self.assertTrue(said.startswith("what others have put in its place since stays: "), said)
+        self.assertEqual(self.contents(prefix), packed)
+
     def test_a_folder_in_the_place_of_a_file(self):
         """And a file in that of a folder: each is named before anything is written, whatever is to be replaced."""
         os.makedirs(self.path("one", "bin", "btx"))
@@ -563,10 +575,10 @@ place.install(False)
             self.runs(shlex.split(entry[head]["Exec"]))
 
     def test_what_a_desktop_reads_holds_under_any_prefix(self):
-        """A backslash is doubled in an entry, a program whose path has % is called by env, and XDG_DATA_DIRS can name no folder with a colon."""
+        """A backslash is doubled in an entry, a program whose path has % is called by nice, and XDG_DATA_DIRS can name no folder with a colon."""
         for prefix, lines in (
             ("/a\\s", (b"\nTryExec=/a\\\\s/bin/btx\n", b'\nExec="/a\\\\\\\\s/')),
-            ("/50%", (b"\nTryExec=/50%/bin/btx\n", b'\nExec=env "/50%%/')),
+            ("/50%", (b"\nTryExec=/50%/bin/btx\n", b'\nExec=nice -n 0 "/50%%/')),
         ):
             place = tree.Tree("", prefix)
             parts.put_desktop(place)
@@ -641,12 +653,15 @@ place.install(False)
         own = self.written("prefix/share/man/own", b"")
         for _ in range(2):
             self.is_right(self.run_of(INSTALL, prefix, env=stand.environment()))
-        # What an earlier one put and this one doesn't goes with the next.
-        old = self.written("prefix/share/tamligub/old", b"")
+        # What an earlier one put and this one doesn't goes with the next, which says so.
+        os.mkdir(os.path.join(prefix, "share/tamligub/aside"))
+        old = self.written("prefix/share/tamligub/aside/old", b"")
         with open(os.path.join(prefix, "share/tamligub/installed"), "a", encoding="ascii") as file:
-            file.write("share/tamligub/old\n")
-        self.is_right(self.run_of(INSTALL, prefix, env=stand.environment()))
-        self.assertFalse(os.path.exists(old))
+            file.write("share/tamligub/aside/old\nshare/tamligub/aside/\n")
+        for said in (f"taken away, since an earlier install had it and this one hasn't: {old}\n", "installed; "):
+            done = self.is_right(self.run_of(INSTALL, prefix, env=stand.environment()))
+            self.assertEqual(done.decode()[: len(said)], said)
+        self.assertFalse(os.path.exists(os.path.dirname(old)))
         self.works(prefix)
         self.is_right(self.run_of(INSTALL, "--uninstall", prefix, env={**self.bare(), "BTX_PROGRAM": "nowhere"}))
         left = [os.path.join(place, name) for place, folders, names in os.walk(prefix) for name in folders + names]

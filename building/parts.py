@@ -70,8 +70,8 @@ def put_completion(tree):
 def put_desktop(tree):
     """The type of the files that are pages, what opens them, and what paints their small pictures."""
     prefix = tree.known_as
-    # As an entry's Exec quotes a program's path, up to its end. GLib looks for a program before it reads %% as %.
-    way = 'env "' if "%" in prefix else '"'
+    # As an entry's Exec quotes a program's path, up to its end. GLib looks for a program before it reads %% as %, and nice takes any name.
+    way = 'nice -n 0 "' if "%" in prefix else '"'
     quoted = way + re.sub(r'(["`$\\])', r"\\\1", prefix).replace("\\", "\\\\").replace("%", "%%")
     for name, place in DESKTOP.items():
         text = text_of(f"desktop/{name}").replace("@prefix@", prefix.replace("\\", "\\\\")).replace("@quoted@", quoted)

@@ -4,6 +4,7 @@ import hashlib
 import itertools
 import os
 import shutil
+import time
 from typing import NamedTuple
 
 # What is installed under a prefix: a line for each file, with a tab and its mark, and for each folder that was made.
@@ -55,6 +56,8 @@ class Tree:
     def __init__(self, prefix, known_as, libraries="lib"):
         self.prefix, self.known_as, self.libraries = prefix, known_as, libraries
         self.files: dict[str, File | Link] = {}
+        # The time of all its files, in pairs of seconds, as each file system keeps them.
+        self.moment = int(time.time()) // 2 * 2
 
     def write(self, place, data, mode=0o644):
         """A file of bytes."""
@@ -106,7 +109,7 @@ class Tree:
         for place, file in self.files.items():
             if place not in left:
                 os.makedirs(os.path.dirname(self.path(place)), exist_ok=True)
-                put(self.path(place), file.make)
+                put(self.path(place), file.make, self.moment)
 
     def put_list(self, files, folders):
         """Writes a list of what is under the prefix. Folders that it needs come with it at once, so that none stands without a list."""
@@ -127,17 +130,19 @@ class Tree:
 
     def install(self, replaces):
         """Writes all but what stands there and isn't known to be ours, takes away what an earlier install left and this one didn't, and
-        writes the list of what is there."""
+        writes the list of what is there. Answers the paths of what was taken away."""
         earlier, folders = listed(self.prefix)
         earlier = {place: marks for place, marks in earlier.items() if is_ours(self.prefix, place, marks)}
         self.check(set(earlier), replaces)
         left = {place for place in self.files if place not in earlier and self.stands(place)}
-        files = {place: {file.mark()} for place, file in self.files.items() if place not in left}
+        files = {place: {timed(file.mark(), self.moment)} for place, file in self.files.items() if place not in left}
         made = self.missing()
         self.put_first_list(earlier, files, [*folders, *made])
         self.lay(left)
-        take_away(self.prefix, [place for place in earlier if place not in self.files], [])
-        self.put_list(files, [*folders, *made])
+        gone = [place for place in earlier if place not in self.files and os.path.lexists(self.path(place))]
+        take_away(self.prefix, gone, [*folders, *made])
+        self.put_list(files, [folder for folder in (*folders, *made) if os.path.isdir(self.path(folder))])
+        return [self.path(place) for place in gone if not place.endswith(NEW)]
 
 
 def path_of(prefix, place):
@@ -168,9 +173,16 @@ def mark_at(path):
     return mark_of(bytes_of(path)) if os.path.isfile(path) else None
 
 
+def timed(mark, moment):
+    """A mark with the time of the file: a package that came over an install may have the same bytes, and has times of its own."""
+    return f"{mark} {moment}"
+
+
 def is_ours(prefix, place, marks):
     """Whether what stands at a place of the list is what an install has put there."""
-    return not marks or mark_at(path_of(prefix, place)) in marks
+    path = path_of(prefix, place)
+    mark = mark_at(path)
+    return not marks or mark is not None and timed(mark, int(os.lstat(path).st_mtime)) in marks
 
 
 def named(paths):
@@ -178,13 +190,15 @@ def named(paths):
     return ", ".join(paths[:NAMED]) + (f" and {len(paths) - NAMED} more" if len(paths) > NAMED else "")
 
 
-def put(path, make):
-    """What `make` makes at a path, by another name first, so that a program that runs is replaced and not written over. Where it fails
-    nothing of it stays, and the fault names the path."""
+def put(path, make, moment=None):
+    """What `make` makes at a path, by another name first, so that a program that runs is replaced and not written over; with some time,
+    where one is given. Where it fails nothing of it stays, and the fault names the path."""
     with contextlib.suppress(FileNotFoundError):
         os.remove(path + NEW)
     try:
         make(path + NEW)
+        if moment is not None:
+            os.utime(path + NEW, (moment, moment), follow_symlinks=False)
         os.replace(path + NEW, path)
     except BaseException as fault:
         with contextlib.suppress(FileNotFoundError):
